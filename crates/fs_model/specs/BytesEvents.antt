@@ -12,7 +12,7 @@ use Rattle.fs_model.specs.declared.reply.Which.{Which}
 use Rattle.fs_model.specs.Words.{first, block_count, ◌when◌}
 use Rattle.fs_model.specs.State.{State, Copied, OpenBlock, Source, Stream, Writer, Mover, JobHand, Hand, Hands}
 use Rattle.fs_model.specs.Lookups.{file_block, Touch, file_of, path_of, hand_at, worker, is_live, runs_since, copy_of, lacking, awaited, covers, holders, is_moved, no_room_for, tiers_of, stored_is_wanted, stored_is_yes}
-use Rattle.fs_model.specs.Tests.{no, stopped, touch, along, label_taken, not_configured, not_configured_if_any, not_live, past, past_labels, past_plans, past_ids, past_area, ◌only_if◌}
+use Rattle.fs_model.specs.Tests.{refuse, stopped, touch, along, label_taken, not_configured, not_configured_if_any, not_live, past, past_labels, past_plans, past_ids, past_area, ◌only_if◌}
 use Rattle.fs_model.specs.NamesEvents.{is_dir_at, unfinished_at, file_is, id_at}
 
 -- ---- the label's hand, where it has that kind and isn't broken
@@ -48,7 +48,7 @@ abbrev pub unbroken_at : Hands → Label → Option Hand
 unbroken_at H l = option_and_then unbroken (hand_at H l)
 
 abbrev pub no_node_of : State → ℕ → Option Reply
-no_node_of A id = no NotFound (is_none (file_of A.names id))
+no_node_of A id = refuse NotFound (is_none (file_of A.names id))
 
 -- ---- writers
 
@@ -73,23 +73,23 @@ stored_by WriteType.AsyncThrough = Stored.Wanted
 abbrev pub writer_stands : State → Writer → Bool
 writer_stands A w = is_live A w.worker && nat_eq (worker A w.worker).start w.start
 
-abbrev pub room_early_of : Setup → State → Writer → Option Reply
-room_early_of S A w =
+abbrev pub room_refusal_of : Setup → State → Writer → Option Reply
+room_refusal_of S A w =
     let wanted = block_wanted w.bs w.block in
     first (
     stopped A
     ∷ no_node_of A w.file
     ∷ (past Which.Blocks (nat_le 65536 (block_count (length w.taken) w.bs)) only_if wanted)
     ∷ (past_ids (worker A w.worker).next only_if (wanted && is_cached w.kind))
-    ∷ no (NoWorker w.worker) (is_cached w.kind && not (writer_stands A w))
-    ∷ no (NoRoom w.worker) (wanted && is_cached w.kind && no_room_for S A w.worker None w.bs)
+    ∷ refuse (NoWorker w.worker) (is_cached w.kind && not (writer_stands A w))
+    ∷ refuse (NoRoom w.worker) (wanted && is_cached w.kind && no_room_for S A w.worker None w.bs)
     ∷ [])
 
-abbrev pub room_early : Setup → State → Hands → Label → Option Reply
-room_early S A H l = elim (writer_at H l) [ None ↦ bad_label | Some w ↦ room_early_of S A w ]
+abbrev pub room_refusal : Setup → State → Hands → Label → Option Reply
+room_refusal S A H l = elim (writer_at H l) [ None ↦ bad_label | Some w ↦ room_refusal_of S A w ]
 
-abbrev pub put_early : Hands → Label → Option Reply
-put_early H l = elim (writer_at H l) [ None ↦ bad_label | Some w ↦ None ]
+abbrev pub put_refusal : Hands → Label → Option Reply
+put_refusal H l = elim (writer_at H l) [ None ↦ bad_label | Some w ↦ None ]
 
 -- ---- Finish
 
@@ -107,8 +107,8 @@ job_change A j = Change.Persisted j.file A.names.next_plan
 abbrev pub touch_of_file : State → ℕ → Option Reply
 touch_of_file A id = option_and_then (λ p. touch A p Touch.Inside) (path_of A.names id)
 
-abbrev pub finish_writer_early : Setup → State → Writer → Option Reply
-finish_writer_early S A w =
+abbrev pub finish_writer_refusal : Setup → State → Writer → Option Reply
+finish_writer_refusal S A w =
     let publishes = stored_is_yes (stored_by w.kind) in
     first (
     stopped A
@@ -117,66 +117,66 @@ finish_writer_early S A w =
     ∷ (past_plans A only_if publishes)
     ∷ (past_ids A.names.next_plan only_if publishes)
     ∷ past_area S A (Some (writer_change A w))
-    ∷ no (NoWorker w.worker) (is_cached w.kind && not (writer_stands A w))
+    ∷ refuse (NoWorker w.worker) (is_cached w.kind && not (writer_stands A w))
     ∷ [])
 
-abbrev pub finish_mover_early : State → Mover → Option Reply
-finish_mover_early A m = first (
-    no Incomplete (nat_lt m.copied m.len)
-    ∷ no (NoWorker m.held.worker) (not (runs_since A m.held.worker m.held.start))
-    ∷ no (Held m.held.worker) (nat_lt 1 (holders A m.held.worker m.held.number))
+abbrev pub finish_mover_refusal : State → Mover → Option Reply
+finish_mover_refusal A m = first (
+    refuse Incomplete (nat_lt m.copied m.len)
+    ∷ refuse (NoWorker m.held.worker) (not (runs_since A m.held.worker m.held.start))
+    ∷ refuse (Held m.held.worker) (nat_lt 1 (holders A m.held.worker m.held.number))
     ∷ [])
 
 abbrev pub is_wanted : State → ℕ → Bool
 is_wanted A id = elim (file_of A.names id) [ None ↦ false | Some f ↦ stored_is_wanted f.stored ]
 
-abbrev pub finish_job_early : Setup → State → JobHand → Option Reply
-finish_job_early S A j = first (
+abbrev pub finish_job_refusal : Setup → State → JobHand → Option Reply
+finish_job_refusal S A j = first (
     stopped A
     ∷ no_node_of A j.file
     ∷ touch_of_file A j.file
     ∷ (Reply.Idle when not (is_wanted A j.file))
-    ∷ no Incomplete (nat_lt j.at (length j.bytes))
+    ∷ refuse Incomplete (nat_lt j.at (length j.bytes))
     ∷ past_plans A
     ∷ past_ids A.names.next_plan
     ∷ past_area S A (Some (job_change A j))
     ∷ [])
 
-abbrev pub finish_early_of : Setup → State → Hand → Option Reply
-finish_early_of S A (Hand.Reading s) = bad_label
-finish_early_of S A (Hand.Writing w) = finish_writer_early S A w
-finish_early_of S A (Hand.Moving m) = finish_mover_early A m
-finish_early_of S A (Hand.Storing j) = finish_job_early S A j
+abbrev pub finish_refusal_of : Setup → State → Hand → Option Reply
+finish_refusal_of S A (Hand.Reading s) = bad_label
+finish_refusal_of S A (Hand.Writing w) = finish_writer_refusal S A w
+finish_refusal_of S A (Hand.Moving m) = finish_mover_refusal A m
+finish_refusal_of S A (Hand.Storing j) = finish_job_refusal S A j
 
-abbrev pub finish_early : Setup → State → Hands → Label → Option Reply
-finish_early S A H l = elim (unbroken_at H l) [ None ↦ bad_label | Some h ↦ finish_early_of S A h ]
+abbrev pub finish_refusal : Setup → State → Hands → Label → Option Reply
+finish_refusal S A H l = elim (unbroken_at H l) [ None ↦ bad_label | Some h ↦ finish_refusal_of S A h ]
 
 -- ---- labels that are made at a path
 
 abbrev pub past_blocks : Setup → State → Path → Option Reply
 past_blocks S A p = past Which.Blocks (file_is (λ f. nat_lt 65536 (block_count f.len (file_block S f))) A p)
 
-abbrev pub open_early : Setup → State → Hands → Label → Path → ℕ → Option Reply
-open_early S A H l p w = first (
+abbrev pub open_refusal : Setup → State → Hands → Label → Path → ℕ → Option Reply
+open_refusal S A H l p w = first (
     label_taken H l
     ∷ stopped A
     ∷ touch A p Touch.Inside
     ∷ along A p
-    ∷ no IsDirectory (is_dir_at A p)
-    ∷ no Incomplete (unfinished_at A p)
+    ∷ refuse IsDirectory (is_dir_at A p)
+    ∷ refuse Incomplete (unfinished_at A p)
     ∷ not_configured_if_any S w
     ∷ past_labels H
     ∷ past_blocks S A p
     ∷ [])
 
-abbrev pub job_early : Setup → State → Hands → Label → Path → Option Reply
-job_early S A H l p = first (
+abbrev pub job_refusal : Setup → State → Hands → Label → Path → Option Reply
+job_refusal S A H l p = first (
     label_taken H l
     ∷ stopped A
     ∷ touch A p Touch.Inside
     ∷ along A p
-    ∷ no IsDirectory (is_dir_at A p)
-    ∷ no Incomplete (unfinished_at A p)
+    ∷ refuse IsDirectory (is_dir_at A p)
+    ∷ refuse Incomplete (unfinished_at A p)
     ∷ (Reply.Idle when file_is (λ f. not (stored_is_wanted f.stored)) A p)
     ∷ past_labels H
     ∷ past_blocks S A p
@@ -191,16 +191,16 @@ abbrev pub shifted_len : Option Copied → ℕ
 shifted_len None = 0
 shifted_len (Some c) = c.len
 
-abbrev pub shift_early : Setup → State → Hands → Label → ℕ → Path → ℕ → ℕ → Option Reply
-shift_early S A H l w p i t =
+abbrev pub shift_refusal : Setup → State → Hands → Label → ℕ → Path → ℕ → ℕ → Option Reply
+shift_refusal S A H l w p i t =
     let c = copy_of (worker A w) (id_at A p) i in
     first (
     label_taken H l
     ∷ stopped A
     ∷ touch A p Touch.Inside
     ∷ along A p
-    ∷ no IsDirectory (is_dir_at A p)
-    ∷ no Incomplete (unfinished_at A p)
+    ∷ refuse IsDirectory (is_dir_at A p)
+    ∷ refuse Incomplete (unfinished_at A p)
     ∷ not_configured S w
     ∷ past_labels H
     ∷ past_blocks S A p
@@ -208,7 +208,7 @@ shift_early S A H l w p i t =
     ∷ past_ids (worker A w).next
     ∷ not_live A w
     ∷ (Reply.Idle when nothing_to_move A w t c)
-    ∷ no (NoRoom w) (no_room_for S A w (Some t) (shifted_len c))
+    ∷ refuse (NoRoom w) (no_room_for S A w (Some t) (shifted_len c))
     ∷ [])
 
 -- ---- Next
@@ -217,35 +217,35 @@ shift_early S A H l w p i t =
 abbrev pub covered : State → ℕ → Bool → Option Reply
 covered A id stored = option_map (λ n. Reply.Refused (Busy n)) (cond stored (option_and_then (covers A.names) (path_of A.names id)) None)
 
-abbrev pub next_early_at : State → ℕ → ℕ → Option Reply
-next_early_at A id i =
+abbrev pub next_refusal_at : State → ℕ → ℕ → Option Reply
+next_refusal_at A id i =
     let stored = elim (file_of A.names id) as (λ o. Bool) [ None ↦ false | Some f ↦ stored_is_yes f.stored ] in
     first (
     covered A id stored
     ∷ (option_map (λ w. Reply.Refused (SafeMode w)) (awaited A) only_if not stored)
-    ∷ no (Unavailable i) (not stored)
+    ∷ refuse (Unavailable i) (not stored)
     ∷ []) only_if lacking A id i
 
-abbrev pub next_early_of : State → ℕ → ℕ → ℕ → ℕ → Option Source → Option Reply
-next_early_of A id bs at len source = first (
+abbrev pub next_refusal_of : State → ℕ → ℕ → ℕ → ℕ → Option Source → Option Reply
+next_refusal_of A id bs at len source = first (
     stopped A
     ∷ no_node_of A id
-    ∷ (next_early_at A id (at / bs) only_if (nat_lt at len && is_none source))
+    ∷ (next_refusal_at A id (at / bs) only_if (nat_lt at len && is_none source))
     ∷ [])
 
-abbrev pub next_early_in : Setup → State → Hand → Option Reply
-next_early_in S A (Hand.Reading s) = next_early_of A s.file s.bs s.at (length s.bytes) s.source
-next_early_in S A (Hand.Writing w) = bad_label
-next_early_in S A (Hand.Moving m) = bad_label
-next_early_in S A (Hand.Storing j) = next_early_of A j.file j.bs j.at (length j.bytes) j.source
+abbrev pub next_refusal_in : Setup → State → Hand → Option Reply
+next_refusal_in S A (Hand.Reading s) = next_refusal_of A s.file s.bs s.at (length s.bytes) s.source
+next_refusal_in S A (Hand.Writing w) = bad_label
+next_refusal_in S A (Hand.Moving m) = bad_label
+next_refusal_in S A (Hand.Storing j) = next_refusal_of A j.file j.bs j.at (length j.bytes) j.source
 
-abbrev pub next_early : Setup → State → Hands → Label → Option Reply
-next_early S A H l = elim (unbroken_at H l) [ None ↦ bad_label | Some h ↦ next_early_in S A h ]
+abbrev pub next_refusal : Setup → State → Hands → Label → Option Reply
+next_refusal S A H l = elim (unbroken_at H l) [ None ↦ bad_label | Some h ↦ next_refusal_in S A h ]
 
 -- ---- Poll, Copy, Close
 
-abbrev pub poll_early : Hands → Label → Option Reply
-poll_early H l = elim (stream_at H l) [ None ↦ bad_label | Some s ↦ None ]
+abbrev pub poll_refusal : Hands → Label → Option Reply
+poll_refusal H l = elim (stream_at H l) [ None ↦ bad_label | Some s ↦ None ]
 
 abbrev pub copies_bytes : Hand → Bool
 copies_bytes (Hand.Reading s) = false
@@ -253,8 +253,8 @@ copies_bytes (Hand.Writing w) = false
 copies_bytes (Hand.Moving m) = true
 copies_bytes (Hand.Storing j) = true
 
-abbrev pub copy_early : Hands → Label → Option Reply
-copy_early H l = elim (unbroken_at H l) [ None ↦ bad_label | Some h ↦ Reply.Refused BadLabel when not (copies_bytes h) ]
+abbrev pub copy_refusal : Hands → Label → Option Reply
+copy_refusal H l = elim (unbroken_at H l) [ None ↦ bad_label | Some h ↦ Reply.Refused BadLabel when not (copies_bytes h) ]
 
-abbrev pub close_early : Hands → Label → Option Reply
-close_early H l = no BadLabel (is_none (hand_at H l))
+abbrev pub close_refusal : Hands → Label → Option Reply
+close_refusal H l = refuse BadLabel (is_none (hand_at H l))

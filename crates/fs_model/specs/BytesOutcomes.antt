@@ -11,8 +11,8 @@ use Rattle.fs_model.specs.declared.reply.Stored.{Stored}
 use Rattle.fs_model.specs.declared.reply.Reply.{Reply}
 use Rattle.fs_model.specs.Words.{block_len, update_at}
 use Rattle.fs_model.specs.State.{State, Names, Copied, Worker, Hold, Source, Cache, Stream, OpenBlock, Writer, Mover, JobHand, Hand, Hands}
-use Rattle.fs_model.specs.Lookups.{file_of, path_of, worker, is_live, runs_since, copy_of, copy_numbered, live_copies, covers, key_of, holders, placed, stored_is_yes, no_worker, hand_at}
-use Rattle.fs_model.specs.Luck.{Luck}
+use Rattle.fs_model.specs.Lookups.{file_of, path_of, worker, is_live, runs_since, copy_of, copy_numbered, live_copies, store_of, covers, key_of, holders, placed, stored_is_yes, no_worker, hand_at}
+use Rattle.fs_model.specs.Choices.{Choices}
 use Rattle.fs_model.specs.NamesEvents.{id_at}
 use Rattle.fs_model.specs.BytesEvents.{block_wanted, stored_by, writer_stands, writer_change, job_change, writer_at, stream_at, unbroken_at}
 use Rattle.fs_model.specs.Updates.{unpark_at, unpark_if, change_worker, retake, release, add_hand, set_hand, end_hand, journal, content, without_room, free_room, used, commit, replace_copy, take_room}
@@ -44,22 +44,22 @@ abbrev pub opened : Writer → WriteType → Option ℕ → Writer
 opened w kind room = record w { kind = kind; block = Some (record { room = room; len = 0 }) }
 
 -- the body and the labels after an event
-abbrev pub After : Type 0
-After = State × Hands
+abbrev pub BodyAndHands : Type 0
+BodyAndHands = State × Hands
 
-abbrev pub Out : Type 0
-Out = Reply × State × Hands
+abbrev pub Outcome : Type 0
+Outcome = Reply × State × Hands
 
-abbrev pub with_reply : Reply → After → Out
+abbrev pub with_reply : Reply → BodyAndHands → Outcome
 with_reply r o = (r, o.0, o.1)
 
-abbrev pub open_cached : Setup → State → Hands → Label → Writer → After
+abbrev pub open_cached : Setup → State → Hands → Label → Writer → BodyAndHands
 open_cached S A H l w = (take_room (placed S A w.worker None w.bs) w.worker w.bs A, set_hand l (Hand.Writing (opened w w.kind (Some (worker A w.worker).next))) H)
 
-abbrev pub open_uncached : State → Hands → Label → Writer → After
+abbrev pub open_uncached : State → Hands → Label → Writer → BodyAndHands
 open_uncached A H l w = (A, set_hand l (Hand.Writing (opened w WriteType.Through None)) H)
 
-abbrev pub open_cached_if : Bool → Setup → State → Hands → Label → Writer → After
+abbrev pub open_cached_if : Bool → Setup → State → Hands → Label → Writer → BodyAndHands
 open_cached_if true S A H l w = open_cached S A H l w
 open_cached_if false S A H l w = open_uncached A H l w
 
@@ -69,18 +69,18 @@ opens_cached S A w WriteType.CacheThrough = caches_on S A w
 opens_cached S A w WriteType.Through = false
 opens_cached S A w WriteType.AsyncThrough = true
 
-abbrev pub open_block : Setup → State → Hands → Label → Writer → After
+abbrev pub open_block : Setup → State → Hands → Label → Writer → BodyAndHands
 open_block S A H l w = open_cached_if (opens_cached S A w w.kind) S A H l w
 
-abbrev pub room_if : Bool → Setup → State → Hands → Label → Writer → After
+abbrev pub room_if : Bool → Setup → State → Hands → Label → Writer → BodyAndHands
 room_if true S A H l w = open_block S (close_block S A w) H l w
 room_if false S A H l w = (A, H)
 
-abbrev pub room_by : Setup → State → Hands → Label → Option Writer → After
+abbrev pub room_by : Setup → State → Hands → Label → Option Writer → BodyAndHands
 room_by S A H l None = (A, H)
 room_by S A H l (Some w) = room_if (block_wanted w.bs w.block) S A H l w
 
-abbrev pub room_outcome : Setup → State → Hands → Label → Out
+abbrev pub room_outcome : Setup → State → Hands → Label → Outcome
 room_outcome S A H l = with_reply Reply.Done (room_by S A H l (writer_at H l))
 
 -- byte k of generator num
@@ -106,20 +106,20 @@ abbrev pub put_in : Hands → Label → Writer → List ℕ → Hands
 put_in H l w bs = set_hand l (Hand.Writing (record w { taken = w.taken ++ bs; block = option_map (longer (length bs)) w.block })) H
 
 -- what an event that touches the actor's own labels alone leaves
-abbrev pub Own : Type 0
-Own = Reply × Hands
+abbrev pub OwnOutcome : Type 0
+OwnOutcome = Reply × Hands
 
-abbrev pub put_if : Bool → Setup → Hands → Label → Fill → Writer → Own
+abbrev pub put_if : Bool → Setup → Hands → Label → Fill → Writer → OwnOutcome
 put_if true S H l fill w = (Reply.NeedsRoom, H)
 put_if false S H l fill w =
     let n = min (fill_len fill) (lacks w.bs w.block) in
     (Reply.Taken n, put_in H l w (take n (fill_bytes fill)))
 
-abbrev pub put_by : Setup → Hands → Label → Fill → Option Writer → Own
+abbrev pub put_by : Setup → Hands → Label → Fill → Option Writer → OwnOutcome
 put_by S H l fill None = (Reply.NeedsRoom, H)
 put_by S H l fill (Some w) = put_if (block_wanted w.bs w.block) S H l fill w
 
-abbrev pub put_outcome : Setup → Hands → Label → Fill → Own
+abbrev pub put_outcome : Setup → Hands → Label → Fill → OwnOutcome
 put_outcome S H l fill = put_by S H l fill (writer_at H l)
 
 -- ---- Finish
@@ -132,43 +132,43 @@ begun_by Stored.Yes A = Reply.Begun A.names.next_plan
 abbrev pub keep_bytes : ℕ → List ℕ → State → State
 keep_bytes id bs A = record A { contents = A.contents ++ record { file = id; bytes = bs } ∷ [] }
 
-abbrev pub finish_writer : Setup → State → Hands → Label → Writer → Out
+abbrev pub finish_writer : Setup → State → Hands → Label → Writer → Outcome
 finish_writer S A H l w = (
   begun_by (stored_by w.kind) A,
   keep_bytes w.file w.taken (unpark_if (stored_by w.kind) A.names.next_plan A w.file (journal (writer_change A w) (close_block S A w))),
   end_hand l H,
 )
 
-abbrev pub finish_mover : State → ℕ → Hands → Label → Mover → Out
+abbrev pub finish_mover : State → ℕ → Hands → Label → Mover → Outcome
 finish_mover A who H l m = (Reply.Done, release who l (change_worker m.held.worker (replace_copy m.held.number m.room (λ c. c)) A), end_hand l H)
 
-abbrev pub finish_job : State → ℕ → Hands → Label → JobHand → Out
+abbrev pub finish_job : State → ℕ → Hands → Label → JobHand → Outcome
 finish_job A who H l j = (Reply.Begun A.names.next_plan, release who l (unpark_at A.names.next_plan A j.file (journal (job_change A j) A)), end_hand l H)
 
-abbrev pub finish_by : Setup → State → ℕ → Hands → Label → Option Hand → Out
+abbrev pub finish_by : Setup → State → ℕ → Hands → Label → Option Hand → Outcome
 finish_by S A who H l None = (Reply.Done, A, H)
 finish_by S A who H l (Some (Hand.Reading s)) = (Reply.Done, A, H)
 finish_by S A who H l (Some (Hand.Writing w)) = finish_writer S A H l w
 finish_by S A who H l (Some (Hand.Moving m)) = finish_mover A who H l m
 finish_by S A who H l (Some (Hand.Storing j)) = finish_job A who H l j
 
-abbrev pub finish_outcome : Setup → State → ℕ → Hands → Label → Out
+abbrev pub finish_outcome : Setup → State → ℕ → Hands → Label → Outcome
 finish_outcome S A who H l = finish_by S A who H l (unbroken_at H l)
 
 -- ---- labels that are made
 
-abbrev pub open_outcome : Setup → State → Hands → Label → Path → ReadType → ℕ → Out
+abbrev pub open_outcome : Setup → State → Hands → Label → Path → ReadType → ℕ → Outcome
 open_outcome S A H l p kind w =
     let id = id_at A p in
     let bytes = content A id in
     (Reply.Opened (length bytes), A, add_hand l (Hand.Reading (record { file = id; bs = S.block; bytes = bytes; at = 0; kind = kind; worker = w; source = None; cache = None })) H)
 
-abbrev pub job_outcome : Setup → State → Hands → Label → Path → Out
+abbrev pub job_outcome : Setup → State → Hands → Label → Path → Outcome
 job_outcome S A H l p =
     let id = id_at A p in
-    (Reply.Done, A, add_hand l (Hand.Storing (record { file = id; bs = S.block; bytes = content A id; at = 0; source = None; broken = false })) H)
+    (Reply.Done, A, add_hand l (Hand.Storing (record { file = id; bs = S.block; store = store_of A.names p; bytes = content A id; at = 0; source = None; broken = false })) H)
 
-abbrev pub shift_by : Setup → State → ℕ → Hands → Label → ℕ → ℕ → Option Copied → Out
+abbrev pub shift_by : Setup → State → ℕ → Hands → Label → ℕ → ℕ → Option Copied → Outcome
 shift_by S A who H l w t None = (Reply.Idle, A, H)
 shift_by S A who H l w t (Some c) =
     let held : Hold = record { worker = w; start = (worker A w).start; number = c.number } in (
@@ -177,18 +177,18 @@ shift_by S A who H l w t (Some c) =
       add_hand l (Hand.Moving (record { held = held; tier = t; room = (worker A w).next; len = c.len; copied = 0; broken = false })) H,
     )
 
-abbrev pub shift_outcome : Setup → State → ℕ → Hands → Label → ℕ → Path → ℕ → ℕ → Out
+abbrev pub shift_outcome : Setup → State → ℕ → Hands → Label → ℕ → Path → ℕ → ℕ → Outcome
 shift_outcome S A who H l w p i t = shift_by S A who H l w t (copy_of (worker A w) (id_at A p) i)
 
 -- ---- the sources of a block, in order, each with the copy that it holds
 
-abbrev pub Choice : Type 0
-Choice = Source × Option Hold
+abbrev pub Candidate : Type 0
+Candidate = Source × Option Hold
 
-abbrev pub at_worker : State → ℕ × Copied → Choice
+abbrev pub at_worker : State → ℕ × Copied → Candidate
 at_worker A c = (Source.AtWorker c.0 c.1.tier, Some (record { worker = c.0; start = (worker A c.0).start; number = c.1.number }))
 
-abbrev pub store_source : State → ℕ → List Choice
+abbrev pub store_source : State → ℕ → List Candidate
 store_source A id = elim (file_of A.names id) [
   | None ↦ []
   | Some f ↦ cond (stored_is_yes f.stored) (elim (path_of A.names id) [
@@ -198,7 +198,7 @@ store_source A id = elim (file_of A.names id) [
 ]
 
 -- the live copy at the own worker, live copies by rising worker, the store
-abbrev pub sources : State → ℕ → ℕ → ℕ → List Choice
+abbrev pub sources : State → ℕ → ℕ → ℕ → List Candidate
 sources A own id i =
     let live = live_copies A id i in
     map (at_worker A) (filter (λ c. nat_eq c.0 own) live) ++ (map (at_worker A) (filter (λ c. not (nat_eq c.0 own)) live) ++ store_source A id)
@@ -236,16 +236,16 @@ room_to_litter n W = record (without_room n W) { litter = W.litter ++ n ∷ [] }
 abbrev pub fits : State → Stream → Cache → Worker → Bool
 fits A s c W = is_none (copy_of W s.file c.block) || promotes A c
 
-abbrev pub settle_cache : Setup → Luck → State → Stream → Cache → Worker → Worker
+abbrev pub settle_cache : Setup → Choices → State → Stream → Cache → Worker → Worker
 settle_cache S k A s c W = cond (is_ready S A s c && fits A s c W)
     (cond k.settles (cache_copied S A s c W) (room_to_litter c.room.number W))
     (cond (runs_since A c.room.worker c.room.start) (without_room c.room.number W) W)
 
-abbrev pub settle_workers : Setup → Luck → State → Stream → Option Cache → List Worker → List Worker
+abbrev pub settle_workers : Setup → Choices → State → Stream → Option Cache → List Worker → List Worker
 settle_workers S k A s None ws = ws
 settle_workers S k A s (Some c) ws = update_at (pred c.room.worker) no_worker (settle_cache S k A s c) ws
 
-abbrev pub settled : Setup → Luck → State → Stream → State
+abbrev pub settled : Setup → Choices → State → Stream → State
 settled S k A s = record A { workers = settle_workers S k A s s.cache A.workers }
 
 -- the stream without what a settling takes from it
@@ -285,7 +285,7 @@ pub data Caching : Type 0 where
   Promoting : Option ℕ → Caching
 
 -- a stream may cache a block from its start on, at its own live worker
-abbrev pub caching : Setup → Luck → State → Stream → Choice → Caching
+abbrev pub caching : Setup → Choices → State → Stream → Candidate → Caching
 caching S k A s c = cond (k.caches && may_cache s.kind && is_live A s.worker && nat_eq (s.at % s.bs) 0)
     (cond (is_none (copy_of (worker A s.worker) s.file (s.at / s.bs))) Caching.Anywhere
     (cond (is_promoting s.kind && own_copy_below s.worker c.0) (Caching.Promoting (held_number c.1)) Caching.Nowhere))
@@ -302,7 +302,7 @@ promoted_by Caching.Anywhere = None
 promoted_by (Caching.Promoting o) = o
 
 -- the place, if there is one and the worker has a number left
-abbrev pub cache_room : Setup → Luck → State → Stream → Choice → Option (ℕ × List ℕ)
+abbrev pub cache_room : Setup → Choices → State → Stream → Candidate → Option (ℕ × List ℕ)
 cache_room S k A s c = cond (nat_lt (worker A s.worker).next (2 ^ 63)) (cache_place S A s (caching S k A s c)) None
 
 abbrev pub new_cache : Setup → State → Stream → Option ℕ → Option (ℕ × List ℕ) → Option Cache
@@ -310,11 +310,11 @@ new_cache S A s promoted None = None
 new_cache S A s promoted (Some p) = Some (record { room = record { worker = s.worker; start = (worker A s.worker).start; number = (worker A s.worker).next }; block = s.at / s.bs; promoted = promoted; spoiled = false })
 
 -- the body once the source is used, the stream settled and the hold changed
-abbrev pub moved_on : Setup → Luck → State → ℕ → Label → Stream → Choice → State
+abbrev pub moved_on : Setup → Choices → State → ℕ → Label → Stream → Candidate → State
 moved_on S k A who l s c = retake who l false c.1 (settled S k (use_hold c.1 A) s)
 
 -- the stream takes this source
-abbrev pub next_from : Setup → Luck → State → ℕ → Hands → Label → Stream → Choice → Out
+abbrev pub next_from : Setup → Choices → State → ℕ → Hands → Label → Stream → Candidate → Outcome
 next_from S k A who H l s c =
     let B = moved_on S k A who l s c in
     let place = cache_room S k B s c in (
@@ -323,41 +323,41 @@ next_from S k A who H l s c =
       set_hand l (Hand.Reading (record s { source = Some c.0; cache = new_cache S B s (promoted_by (caching S k B s c)) place })) H,
     )
 
-abbrev pub next_among : Setup → Luck → State → ℕ → Hands → Label → Stream → List Choice → Out
+abbrev pub next_among : Setup → Choices → State → ℕ → Hands → Label → Stream → List Candidate → Outcome
 next_among S k A who H l s [] = (Reply.End, A, H)
 next_among S k A who H l s (c ∷ cs) = next_from S k A who H l s c
 
-abbrev pub next_within : Setup → Luck → State → ℕ → Hands → Label → Stream → Option Source → Out
+abbrev pub next_within : Setup → Choices → State → ℕ → Hands → Label → Stream → Option Source → Outcome
 next_within S k A who H l s (Some src) = (from_reply src, A, H)
 next_within S k A who H l s None = next_among S k A who H l s (drop k.passed (sources A s.worker s.file (s.at / s.bs)))
 
-abbrev pub next_at_end : Bool → Setup → Luck → State → ℕ → Hands → Label → Stream → Out
+abbrev pub next_at_end : Bool → Setup → Choices → State → ℕ → Hands → Label → Stream → Outcome
 next_at_end true S k A who H l s = (Reply.End, release who l (settled S k A s), set_hand l (Hand.Reading (bare s)) H)
 next_at_end false S k A who H l s = next_within S k A who H l s s.source
 
-abbrev pub job_from : State → ℕ → Hands → Label → JobHand → Choice → Out
+abbrev pub job_from : State → ℕ → Hands → Label → JobHand → Candidate → Outcome
 job_from A who H l j c = (from_reply c.0, retake who l false c.1 (use_hold c.1 A), set_hand l (Hand.Storing (record j { source = Some c.0 })) H)
 
-abbrev pub job_among : State → ℕ → Hands → Label → JobHand → List Choice → Out
+abbrev pub job_among : State → ℕ → Hands → Label → JobHand → List Candidate → Outcome
 job_among A who H l j [] = (Reply.End, A, H)
 job_among A who H l j (c ∷ cs) = job_from A who H l j c
 
-abbrev pub job_within : Setup → Luck → State → ℕ → Hands → Label → JobHand → Option Source → Out
+abbrev pub job_within : Setup → Choices → State → ℕ → Hands → Label → JobHand → Option Source → Outcome
 job_within S k A who H l j (Some src) = (from_reply src, A, H)
 job_within S k A who H l j None = job_among A who H l j (drop k.passed (sources A 0 j.file (j.at / j.bs)))
 
-abbrev pub job_at_end : Bool → Setup → Luck → State → ℕ → Hands → Label → JobHand → Out
+abbrev pub job_at_end : Bool → Setup → Choices → State → ℕ → Hands → Label → JobHand → Outcome
 job_at_end true S k A who H l j = (Reply.End, A, H)
 job_at_end false S k A who H l j = job_within S k A who H l j j.source
 
-abbrev pub next_by : Setup → Luck → State → ℕ → Hands → Label → Option Hand → Out
+abbrev pub next_by : Setup → Choices → State → ℕ → Hands → Label → Option Hand → Outcome
 next_by S k A who H l None = (Reply.End, A, H)
 next_by S k A who H l (Some (Hand.Reading s)) = next_at_end (nat_le (length s.bytes) s.at) S k A who H l s
 next_by S k A who H l (Some (Hand.Writing w)) = (Reply.End, A, H)
 next_by S k A who H l (Some (Hand.Moving m)) = (Reply.End, A, H)
 next_by S k A who H l (Some (Hand.Storing j)) = job_at_end (nat_le (length j.bytes) j.at) S k A who H l j
 
-abbrev pub next_outcome : Setup → Luck → State → ℕ → Hands → Label → Out
+abbrev pub next_outcome : Setup → Choices → State → ℕ → Hands → Label → Outcome
 next_outcome S k A who H l = next_by S k A who H l (unbroken_at H l)
 
 -- ---- Poll and Copy, for a number of bytes that the machine chooses
@@ -372,7 +372,7 @@ spoil c = record c { spoiled = true }
 abbrev pub spoil_if : Bool → Option Cache → Option Cache
 spoil_if b o = cond b (option_map spoil o) o
 
-abbrev pub polled : Setup → Luck → Hands → Label → Stream → Own
+abbrev pub polled : Setup → Choices → Hands → Label → Stream → OwnOutcome
 polled S k H l s = (
   Reply.Given (take k.amount (drop s.at s.bytes)),
   set_hand l (Hand.Reading (record s {
@@ -386,17 +386,17 @@ polled S k H l s = (
 abbrev pub most : ℕ → ℕ → ℕ → ℕ → ℕ
 most bs len at max = min max (block_end bs len (at / bs) - at)
 
-abbrev pub poll_of : Setup → Luck → Hands → Label → Stream → Own
+abbrev pub poll_of : Setup → Choices → Hands → Label → Stream → OwnOutcome
 poll_of S k H l s = cond (nat_le (length s.bytes) s.at) (Reply.End, H)
     (cond (is_none s.source) (Reply.NeedsBlock (s.at / s.bs), H) (polled S k H l s))
 
-abbrev pub copied_job : Setup → Hands → Label → JobHand → ℕ → Own
+abbrev pub copied_job : Setup → Hands → Label → JobHand → ℕ → OwnOutcome
 copied_job S H l j n = (Reply.Copied n, set_hand l (Hand.Storing (record j { at = j.at + n; source = source_after j.bs (length j.bytes) j.at n j.source })) H)
 
-abbrev pub copied_mover : Hands → Label → Mover → ℕ → Own
+abbrev pub copied_mover : Hands → Label → Mover → ℕ → OwnOutcome
 copied_mover H l m n = (Reply.Copied n, set_hand l (Hand.Moving (record m { copied = m.copied + n })) H)
 
-abbrev pub copy_by : Setup → Hands → Label → ℕ → Option Hand → Own
+abbrev pub copy_by : Setup → Hands → Label → ℕ → Option Hand → OwnOutcome
 copy_by S H l n None = (Reply.End, H)
 copy_by S H l n (Some (Hand.Reading s)) = (Reply.End, H)
 copy_by S H l n (Some (Hand.Writing w)) = (Reply.End, H)
@@ -411,14 +411,14 @@ most_copied S (Hand.Writing w) = 0
 most_copied S (Hand.Moving m) = min 65536 (m.len - m.copied)
 most_copied S (Hand.Storing j) = most j.bs (length j.bytes) j.at 65536
 
-abbrev pub poll_by : Setup → Luck → Hands → Label → Option Stream → Own
+abbrev pub poll_by : Setup → Choices → Hands → Label → Option Stream → OwnOutcome
 poll_by S k H l None = (Reply.End, H)
 poll_by S k H l (Some s) = poll_of S k H l s
 
-abbrev pub poll_outcome : Setup → Luck → Hands → Label → Own
+abbrev pub poll_outcome : Setup → Choices → Hands → Label → OwnOutcome
 poll_outcome S k H l = poll_by S k H l (stream_at H l)
 
-abbrev pub copy_outcome : Setup → Luck → Hands → Label → Own
+abbrev pub copy_outcome : Setup → Choices → Hands → Label → OwnOutcome
 copy_outcome S k H l = copy_by S H l k.amount (unbroken_at H l)
 
 -- ---- Close
@@ -430,15 +430,15 @@ free_open A w (Some b) W = elim b.room [ None ↦ W | Some n ↦ cond (runs_sinc
 abbrev pub free_block_room : State → Writer → State
 free_block_room A w = change_worker w.worker (free_open A w w.block) A
 
-abbrev pub close_of : Setup → Luck → State → Hand → State
+abbrev pub close_of : Setup → Choices → State → Hand → State
 close_of S k A (Hand.Reading s) = settled S k A s
 close_of S k A (Hand.Writing w) = free_block_room A w
 close_of S k A (Hand.Moving m) = free_room (record { worker = m.held.worker; start = m.held.start; number = m.room }) A
 close_of S k A (Hand.Storing j) = A
 
-abbrev pub close_by : Setup → Luck → State → ℕ → Label → Option Hand → State
+abbrev pub close_by : Setup → Choices → State → ℕ → Label → Option Hand → State
 close_by S k A who l None = A
 close_by S k A who l (Some h) = release who l (close_of S k A h)
 
-abbrev pub close_outcome : Setup → Luck → State → ℕ → Hands → Label → Out
+abbrev pub close_outcome : Setup → Choices → State → ℕ → Hands → Label → Outcome
 close_outcome S k A who H l = (Reply.Done, close_by S k A who l (hand_at H l), end_hand l H)

@@ -14,8 +14,14 @@ pub mod BytesOutcomes
 pub mod NodesEvents
 pub mod Machine
 pub mod Opening
-pub mod Rows
-pub mod Luck
+pub mod Examples
+pub mod Choices
+pub mod Journaling
+pub mod Faults
 pub mod Step
 pub mod Mirror
-pub mod Recovery
+pub mod Opened
+pub mod Spelled
+pub mod Built
+pub mod Begins
+pub mod Laws

@@ -1,5 +1,5 @@
 -- What is read off the rows: nodes along a path, mounts, locks, workers, live copies and holders.
-use Rattle.std.specs.Prelude.{ℕ, pred, ◌-◌, Bool, true, false, cond, not, ◌&&◌, ◌||◌, List, [], ◌∷◌, ◌++◌, map, length, drop, get_or, filter, nat_eq, nat_lt, nat_le, Option, Some, None, is_some, option_map, option_and_then, slice_get, sum_by, filter_map, find}
+use Rattle.std.specs.Prelude.{ℕ, pred, ◌-◌, Bool, true, false, cond, not, ◌&&◌, ◌||◌, List, [], ◌∷◌, ◌++◌, map, length, drop, get_or, filter, nat_eq, nat_lt, nat_le, Option, Some, None, is_some, option_map, option_and_then, unwrap_or, slice_get, sum_by, filter_map, find}
 use Rattle.std.specs.List.{list_any, list_all, last_or, enumerate_from, range_with_len}
 use Rattle.fs_model.specs.declared.path.Path.{Path}
 use Rattle.fs_model.specs.declared.prefix.Prefix.{Prefix}
@@ -9,7 +9,7 @@ use Rattle.fs_model.specs.declared.reply.Stored.{Stored}
 use Rattle.fs_model.specs.declared.setup.Setup.{Setup}
 use Rattle.std.specs.FinMap as entries
 use Rattle.fs_model.specs.Words.{path_cmp, name_eq, path_eq, under, parts, block_count, first}
-use Rattle.fs_model.specs.State.{Names, NodeRow, MountRow, PlanRow, LockRow, Node, File, Copied, RoomRow, Worker, Seat, Hand, Hands, HoldRow, State}
+use Rattle.fs_model.specs.State.{Names, NodeRow, MountRow, PlanRow, LockRow, Node, File, Copied, RoomRow, Worker, Registration, Hand, Hands, HoldRow, State}
 
 -- ---- nodes, of which the list stands by path
 
@@ -122,6 +122,10 @@ mount_of N p = last_or None (filter (λ m. under p m.path) N.mounts)
 abbrev pub key_of : Names → Path → Option (ℕ × Prefix)
 key_of N p = option_map (λ m. (m.store, m.key ++ drop (length m.path) p)) (mount_of N p)
 
+-- the store in which a file at the path has its object
+abbrev pub store_of : Names → Path → ℕ
+store_of N p = unwrap_or (option_map (λ (k : ℕ × Prefix). k.0) (key_of N p)) 0
+
 abbrev pub has_mount_under : Names → Path → Bool
 has_mount_under N p = list_any (λ m. under m.path p) N.mounts
 
@@ -152,8 +156,8 @@ at_number xs n = cond (nat_eq n 0) None (slice_get xs (pred n))
 abbrev pub numbered : {X : Type 0} → List X → List (ℕ × X)
 numbered xs = enumerate_from 1 xs
 
-abbrev pub no_seat : Seat
-no_seat = record { known = false; awaited = false; silence = 0 }
+abbrev pub unregistered : Registration
+unregistered = record { known = false; awaited = false; silence = 0 }
 
 abbrev pub no_worker : Worker
 no_worker = record { running = false; start = 0; next = 1; copies = []; rooms = []; litter = [] }
@@ -161,8 +165,8 @@ no_worker = record { running = false; start = 0; next = 1; copies = []; rooms = 
 abbrev pub worker : State → ℕ → Worker
 worker A w = get_or A.workers (pred w) no_worker
 
-abbrev pub seat : State → ℕ → Seat
-seat A w = get_or A.seats (pred w) no_seat
+abbrev pub registration : State → ℕ → Registration
+registration A w = get_or A.registrations (pred w) unregistered
 
 abbrev pub is_configured : Setup → ℕ → Bool
 is_configured S w = nat_lt 0 w && nat_le w (length S.tiers)
@@ -171,7 +175,7 @@ abbrev pub is_running : State → ℕ → Bool
 is_running A w = nat_lt 0 w && (worker A w).running
 
 abbrev pub is_live : State → ℕ → Bool
-is_live A w = is_running A w && (seat A w).known
+is_live A w = is_running A w && (registration A w).known
 
 -- the worker runs with the start number that was noted
 abbrev pub runs_since : State → ℕ → ℕ → Bool
@@ -198,7 +202,7 @@ abbrev pub lacking : State → ℕ → ℕ → Bool
 lacking A f i = is_empty (live_copies A f i)
 
 abbrev pub awaited : State → Option ℕ
-awaited A = option_map (λ r. r.0) (find (λ (r : ℕ × Seat). r.1.awaited) (numbered A.seats))
+awaited A = option_map (λ r. r.0) (find (λ (r : ℕ × Registration). r.1.awaited) (numbered A.registrations))
 
 -- the block size of a file: for now all have the same
 abbrev pub file_block : Setup → File → ℕ

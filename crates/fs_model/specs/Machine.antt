@@ -4,51 +4,51 @@ use Rattle.fs_model.specs.declared.setup.Setup.{Setup}
 use Rattle.fs_model.specs.declared.event.Event.{Event}
 use Rattle.fs_model.specs.declared.reply.Reply.{Reply}
 use Rattle.fs_model.specs.State.{State, Hands, HoldRow, Whole}
-use Rattle.fs_model.specs.NamesEvents.{mkdir_early, create_early, rename_early, remove_early, pin_early, persist_early, free_early, mount_early, unmount_early, list_early, stat_early, where_early}
+use Rattle.fs_model.specs.NamesEvents.{mkdir_refusal, create_refusal, rename_refusal, remove_refusal, pin_refusal, persist_refusal, free_refusal, mount_refusal, unmount_refusal, list_refusal, stat_refusal, where_refusal}
 use Rattle.fs_model.specs.NamesOutcomes.{mkdir_outcome, create_outcome, rename_outcome, remove_outcome, pin_outcome, persist_outcome, free_outcome, mount_outcome, unmount_outcome, list_outcome, stat_outcome, where_outcome, plans_outcome, wanted_outcome}
-use Rattle.fs_model.specs.BytesEvents.{room_early, put_early, finish_early, open_early, next_early, poll_early, copy_early, close_early, job_early, shift_early, unbroken_at, stream_at}
-use Rattle.fs_model.specs.BytesOutcomes.{room_outcome, put_outcome, finish_outcome, open_outcome, next_outcome, poll_outcome, copy_outcome, close_outcome, job_outcome, shift_outcome, most, most_copied, Out, Own}
-use Rattle.fs_model.specs.NodesEvents.{start_early, start_outcome, kill_early, kill_outcome, register_early, register_outcome, beat_early, beat_outcome, tick_early, tick_outcome, sweep_early, sweep_outcome, checkpoint_early, checkpoint_outcome, fuse_outcome, restart_outcome, pump_early, pump_outcome}
+use Rattle.fs_model.specs.BytesEvents.{room_refusal, put_refusal, finish_refusal, open_refusal, next_refusal, poll_refusal, copy_refusal, close_refusal, job_refusal, shift_refusal, unbroken_at, stream_at}
+use Rattle.fs_model.specs.BytesOutcomes.{room_outcome, put_outcome, finish_outcome, open_outcome, next_outcome, poll_outcome, copy_outcome, close_outcome, job_outcome, shift_outcome, most, most_copied, Outcome, OwnOutcome}
+use Rattle.fs_model.specs.NodesEvents.{start_refusal, start_outcome, kill_refusal, kill_outcome, register_refusal, register_outcome, beat_refusal, beat_outcome, tick_refusal, tick_outcome, sweep_refusal, sweep_outcome, checkpoint_refusal, checkpoint_outcome, fuse_outcome, restart_outcome, pump_refusal, pump_outcome}
 use Rattle.fs_model.specs.Tests.{stopped}
-use Rattle.fs_model.specs.Luck.{Luck, smooth}
+use Rattle.fs_model.specs.Choices.{Choices, fault_free}
 use Rattle.fs_model.specs.Updates.{end_hand, release}
 
 -- the first test that holds, with its answer
-abbrev pub early : Setup → State → Hands → Event → Option Reply
-early S A H (Event.Mkdir p) = mkdir_early S A p
-early S A H (Event.Create l p kind w) = create_early S A H l p w
-early S A H (Event.Rename p q) = rename_early S A p q
-early S A H (Event.Remove p deep) = remove_early S A p deep
-early S A H (Event.Pin p on) = pin_early S A p on
-early S A H (Event.Persist p) = persist_early S A p
-early S A H (Event.Free p) = free_early A p
-early S A H (Event.Mount p s key) = mount_early S A p s key
-early S A H (Event.Unmount p) = unmount_early S A p
-early S A H (Event.List p) = list_early A p
-early S A H (Event.Stat p) = stat_early A p
-early S A H (Event.Where p) = where_early A p
-early S A H Event.Plans = stopped A
-early S A H Event.Wanted = stopped A
-early S A H (Event.Room l) = room_early S A H l
-early S A H (Event.Put l fill) = put_early H l
-early S A H (Event.Finish l) = finish_early S A H l
-early S A H (Event.OpenFile l p kind w) = open_early S A H l p w
-early S A H (Event.Next l) = next_early S A H l
-early S A H (Event.Poll l max) = poll_early H l
-early S A H (Event.Close l) = close_early H l
-early S A H (Event.Job l p) = job_early S A H l p
-early S A H (Event.Shift l w p i t) = shift_early S A H l w p i t
-early S A H (Event.Copy l) = copy_early H l
-early S A H (Event.Start w) = start_early S A w
-early S A H (Event.Register w) = register_early S A w
-early S A H (Event.Beat w) = beat_early S A w
-early S A H Event.Tick = tick_early S A
-early S A H (Event.Kill w) = kill_early S A w
-early S A H (Event.Sweep w) = sweep_early S A w
-early S A H (Event.Pump n) = pump_early S A n
-early S A H Event.Checkpoint = checkpoint_early S A
-early S A H (Event.Fuse calls) = None
-early S A H Event.Restart = None
+abbrev pub refusal : Setup → State → Hands → Event → Option Reply
+refusal S A H (Event.Mkdir p) = mkdir_refusal S A p
+refusal S A H (Event.Create l p kind w) = create_refusal S A H l p w
+refusal S A H (Event.Rename p q) = rename_refusal S A p q
+refusal S A H (Event.Remove p deep) = remove_refusal S A p deep
+refusal S A H (Event.Pin p on) = pin_refusal S A p on
+refusal S A H (Event.Persist p) = persist_refusal S A p
+refusal S A H (Event.Free p) = free_refusal A p
+refusal S A H (Event.Mount p s key) = mount_refusal S A p s key
+refusal S A H (Event.Unmount p) = unmount_refusal S A p
+refusal S A H (Event.List p) = list_refusal A p
+refusal S A H (Event.Stat p) = stat_refusal A p
+refusal S A H (Event.Where p) = where_refusal A p
+refusal S A H Event.Plans = stopped A
+refusal S A H Event.Wanted = stopped A
+refusal S A H (Event.Room l) = room_refusal S A H l
+refusal S A H (Event.Put l fill) = put_refusal H l
+refusal S A H (Event.Finish l) = finish_refusal S A H l
+refusal S A H (Event.OpenFile l p kind w) = open_refusal S A H l p w
+refusal S A H (Event.Next l) = next_refusal S A H l
+refusal S A H (Event.Poll l max) = poll_refusal H l
+refusal S A H (Event.Close l) = close_refusal H l
+refusal S A H (Event.Job l p) = job_refusal S A H l p
+refusal S A H (Event.Shift l w p i t) = shift_refusal S A H l w p i t
+refusal S A H (Event.Copy l) = copy_refusal H l
+refusal S A H (Event.Start w) = start_refusal S A w
+refusal S A H (Event.Register w) = register_refusal S A w
+refusal S A H (Event.Beat w) = beat_refusal S A w
+refusal S A H Event.Tick = tick_refusal S A
+refusal S A H (Event.Kill w) = kill_refusal S A w
+refusal S A H (Event.Sweep w) = sweep_refusal S A w
+refusal S A H (Event.Pump n) = pump_refusal S A n
+refusal S A H Event.Checkpoint = checkpoint_refusal S A
+refusal S A H (Event.Fuse calls) = None
+refusal S A H Event.Restart = None
 
 -- how much Poll and Copy take where the most comes
 abbrev pub usual_amount : Setup → Hands → Event → ℕ
@@ -57,14 +57,14 @@ usual_amount S H (Event.Copy l) = elim (unbroken_at H l) [ None ↦ 0 | Some h �
 usual_amount S H _ = 0
 
 -- an event that touches no label, and one that touches its actor's own labels alone
-abbrev pub kept : Hands → Reply × State → Out
+abbrev pub kept : Hands → Reply × State → Outcome
 kept H o = (o.0, o.1, H)
 
-abbrev pub own : State → Own → Out
+abbrev pub own : State → OwnOutcome → Outcome
 own A o = (o.0, A, o.1)
 
 -- what an accepted event answers and does, by what the machine chooses
-abbrev pub accepted : Setup → Luck → State → Hands → ℕ → Event → Out
+abbrev pub accepted : Setup → Choices → State → Hands → ℕ → Event → Outcome
 accepted S k A H who (Event.Mkdir p) = kept H (mkdir_outcome A p)
 accepted S k A H who (Event.Create l p kind w) = create_outcome S A H l p kind w
 accepted S k A H who (Event.Rename p q) = kept H (rename_outcome A p q)
@@ -112,12 +112,12 @@ idle_body who e r A = record A { holds = idle_holds e r }
     idle_holds (Event.Finish l) Reply.Idle = (release who l A).holds
     idle_holds e r = A.holds
 
-abbrev pub outcome_by : Setup → Luck → State → Hands → ℕ → Event → Option Reply → Out
+abbrev pub outcome_by : Setup → Choices → State → Hands → ℕ → Event → Option Reply → Outcome
 outcome_by S k A H who e (Some r) = (r, idle_body who e r A, idle_hands e r H)
 outcome_by S k A H who e None = accepted S k A H who e
 
-abbrev pub outcome : Setup → Luck → State → Hands → ℕ → Event → Out
-outcome S k A H who e = outcome_by S k A H who e (early S A H e)
+abbrev pub outcome : Setup → Choices → State → Hands → ℕ → Event → Outcome
+outcome S k A H who e = outcome_by S k A H who e (refusal S A H e)
 
 -- ---- all actors together
 
@@ -128,8 +128,8 @@ abbrev pub put_back : Whole → ℕ → State → Hands → Whole
 put_back W who A H = record { body = A; hands = set W.hands (pred who) H }
 
 -- the answers to a list of events, each taking the most that it may, where nothing fails
-abbrev pub one_step : Setup → Whole → ℕ × Event → Out
-one_step S W e = let H = hands_of W e.0 in outcome S (smooth (usual_amount S H e.1)) W.body H e.0 e.1
+abbrev pub one_step : Setup → Whole → ℕ × Event → Outcome
+one_step S W e = let H = hands_of W e.0 in outcome S (fault_free (usual_amount S H e.1)) W.body H e.0 e.1
 
 abbrev pub replies : Setup → Whole → List (ℕ × Event) → List Reply
 replies S W [] = []

@@ -79,17 +79,27 @@ objects_by s [] sides xs = xs
 objects_by s (g ∷ gs) [] xs = xs
 objects_by s (g ∷ gs) (d ∷ ds) xs = objects_by s gs ds (put_pending s xs (pending_object g d))
 
--- the store holds just these
-abbrev pub HoldsBy : State → List Side → ℕ → Option (List Object) → Type 0
-HoldsBy A sides s None = Unit {0}
-HoldsBy A sides s (Some xs) = xs ≡ objects_by s (pending A) sides (settled_objects A s)
+-- a store's contents: the bytes at each key
+abbrev pub Contents : Type 0
+Contents = Prefix → Option (List ℕ)
 
-abbrev pub HoldAllBy : State → List Side → ℕ → List (Option (List Object)) → Type 0
+-- the bytes of store s at a key, by these sides of the actions left
+abbrev pub bytes_at : State → List Side → ℕ → Contents
+bytes_at A sides s k = entries.find path_cmp k (objects_by s (pending A) sides (settled_objects A s))
+
+-- a store that tells holds just the objects of the rows
+abbrev pub HoldsBy : State → List Side → ℕ → Option Contents → Type 0
+HoldsBy A sides s None = Unit {0}
+HoldsBy A sides s (Some contents) = (k : Prefix) → contents k ≡ bytes_at A sides s k
+
+-- from store s on
+abbrev pub HoldAllBy : State → List Side → ℕ → List (Option Contents) → Type 0
 HoldAllBy A sides s [] = Unit {0}
 HoldAllBy A sides s (x ∷ xs) = HoldsBy A sides s x × HoldAllBy A sides (s + 1) xs
 
--- each store that tells holds the objects of the rows, by some sides of the actions left
-pub record Mirror (A : State) (stores : List (Option (List Object))) : Type 0 where
+-- there are as many stores as rows of them, and each that tells holds just the objects of the rows, by some sides of the actions left
+pub record Mirror (A : State) (stores : List (Option Contents)) : Type 0 where
+  pub count : length stores ≡ length A.stores
   pub sides : List Side
   pub enough : length sides ≡ length (pending A)
   pub each : HoldAllBy A sides 1 stores

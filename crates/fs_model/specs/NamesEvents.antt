@@ -13,7 +13,7 @@ use Rattle.fs_model.specs.declared.reply.Which.{Which}
 use Rattle.fs_model.specs.Words.{path_eq, under, first, ◌when◌, path_len}
 use Rattle.fs_model.specs.State.{State, Node, File, NodeRow, MountRow, Hands}
 use Rattle.fs_model.specs.Lookups.{Touch, has_node, file_at, stored_under, stored_is_yes, children, is_empty, mount_at, mount_of, has_mount_under}
-use Rattle.fs_model.specs.Tests.{no, stopped, touch, along, along_new, label_taken, not_configured_if_any, not_live, past, past_nodes, past_labels, past_plans, past_ids, past_area, ◌only_if◌}
+use Rattle.fs_model.specs.Tests.{refuse, stopped, touch, along, along_new, label_taken, not_configured_if_any, not_live, past, past_nodes, past_labels, past_plans, past_ids, past_area, ◌only_if◌}
 
 -- ---- words on the node of a path
 
@@ -68,21 +68,21 @@ mkdir_tests S A p =
     stopped A
     ∷ touch A p Touch.Inside
     ∷ along_new A p
-    ∷ no Exists (has_node A.names p)
+    ∷ refuse Exists (has_node A.names p)
     ∷ past_nodes A 1
     ∷ past_area S A (mkdir_change A p)
     ∷ []
 
-abbrev pub mkdir_early : Setup → State → Path → Option Reply
-mkdir_early S A p = first (mkdir_tests S A p)
+abbrev pub mkdir_refusal : Setup → State → Path → Option Reply
+mkdir_refusal S A p = first (mkdir_tests S A p)
 
-abbrev pub create_early : Setup → State → Hands → Label → Path → ℕ → Option Reply
-create_early S A H l p w = first (
+abbrev pub create_refusal : Setup → State → Hands → Label → Path → ℕ → Option Reply
+create_refusal S A H l p w = first (
     label_taken H l
     ∷ stopped A
     ∷ touch A p Touch.Inside
     ∷ along_new A p
-    ∷ no Exists (has_node A.names p)
+    ∷ refuse Exists (has_node A.names p)
     ∷ not_configured_if_any S w
     ∷ past_nodes A 1
     ∷ past_labels H
@@ -101,17 +101,17 @@ other_mount None (Some n) = true
 other_mount (Some m) None = true
 other_mount (Some m) (Some n) = not (path_eq m.path n.path)
 
-abbrev pub rename_early : Setup → State → Path → Path → Option Reply
-rename_early S A p q = first (
+abbrev pub rename_refusal : Setup → State → Path → Path → Option Reply
+rename_refusal S A p q = first (
     stopped A
     ∷ touch A p Touch.Whole
     ∷ along A p
     ∷ touch A q Touch.Whole
     ∷ along_new A q
-    ∷ no Exists (has_node A.names q)
-    ∷ no IsMount (has_mount_under A.names p)
-    ∷ no CrossMount (other_mount (mount_of A.names p) (mount_of A.names q))
-    ∷ no InsideItself (under q p)
+    ∷ refuse Exists (has_node A.names q)
+    ∷ refuse IsMount (has_mount_under A.names p)
+    ∷ refuse CrossMount (other_mount (mount_of A.names p) (mount_of A.names q))
+    ∷ refuse InsideItself (under q p)
     ∷ past Which.Path (too_long_after A p q)
     ∷ (past_plans A only_if moves_objects A p)
     ∷ (past_ids A.names.next_plan only_if moves_objects A p)
@@ -121,57 +121,57 @@ rename_early S A p q = first (
 abbrev pub has_child : State → Path → Bool
 has_child A p = not (is_empty (children A.names p))
 
-abbrev pub remove_early : Setup → State → Path → Bool → Option Reply
-remove_early S A p deep = first (
+abbrev pub remove_refusal : Setup → State → Path → Bool → Option Reply
+remove_refusal S A p deep = first (
     stopped A
     ∷ touch A p Touch.Whole
     ∷ along A p
-    ∷ no NotEmpty (not deep && has_child A p)
-    ∷ no IsMount (has_mount_under A.names p)
+    ∷ refuse NotEmpty (not deep && has_child A p)
+    ∷ refuse IsMount (has_mount_under A.names p)
     ∷ (past_plans A only_if moves_objects A p)
     ∷ (past_ids A.names.next_plan only_if moves_objects A p)
     ∷ past_area S A (remove_change A p)
     ∷ [])
 
-abbrev pub pin_early : Setup → State → Path → Bool → Option Reply
-pin_early S A p on = first (
+abbrev pub pin_refusal : Setup → State → Path → Bool → Option Reply
+pin_refusal S A p on = first (
     stopped A
     ∷ touch A p Touch.Inside
     ∷ along A p
-    ∷ no IsDirectory (is_dir_at A p)
+    ∷ refuse IsDirectory (is_dir_at A p)
     ∷ past_area S A (Some (Change.Pin p on))
     ∷ [])
 
-abbrev pub persist_early : Setup → State → Path → Option Reply
-persist_early S A p = first (
+abbrev pub persist_refusal : Setup → State → Path → Option Reply
+persist_refusal S A p = first (
     stopped A
     ∷ touch A p Touch.Inside
     ∷ along A p
-    ∷ no IsDirectory (is_dir_at A p)
-    ∷ no Incomplete (unfinished_at A p)
+    ∷ refuse IsDirectory (is_dir_at A p)
+    ∷ refuse Incomplete (unfinished_at A p)
     ∷ past_area S A (persist_change A p)
     ∷ [])
 
-abbrev pub free_early : State → Path → Option Reply
-free_early A p = first (
+abbrev pub free_refusal : State → Path → Option Reply
+free_refusal A p = first (
     stopped A
     ∷ touch A p Touch.Inside
     ∷ along A p
-    ∷ no IsDirectory (is_dir_at A p)
-    ∷ no Incomplete (unfinished_at A p)
-    ∷ no NotPersisted (file_is (λ f. not (stored_is_yes f.stored)) A p)
-    ∷ no Pinned (file_is (λ f. f.pinned) A p)
+    ∷ refuse IsDirectory (is_dir_at A p)
+    ∷ refuse Incomplete (unfinished_at A p)
+    ∷ refuse NotPersisted (file_is (λ f. not (stored_is_yes f.stored)) A p)
+    ∷ refuse Pinned (file_is (λ f. f.pinned) A p)
     ∷ [])
 
 abbrev pub overlap : State → ℕ → Prefix → Option Reply
 overlap A s key = option_map (λ m. Reply.Refused (MountOverlap m.path)) (find (λ m. nat_eq m.store s && (under m.key key || under key m.key)) A.names.mounts)
 
-abbrev pub mount_early : Setup → State → Path → ℕ → Prefix → Option Reply
-mount_early S A p s key = first (
+abbrev pub mount_refusal : Setup → State → Path → ℕ → Prefix → Option Reply
+mount_refusal S A p s key = first (
     stopped A
     ∷ touch A p Touch.Whole
     ∷ along_new A p
-    ∷ no Exists (has_node A.names p)
+    ∷ refuse Exists (has_node A.names p)
     ∷ overlap A s key
     ∷ past_nodes A 1
     ∷ past_plans A
@@ -189,32 +189,32 @@ abbrev pub is_unstored : Node → Bool
 is_unstored Node.Directory = false
 is_unstored (Node.IsFile f) = not (stored_is_yes f.stored)
 
-abbrev pub unmount_early : Setup → State → Path → Option Reply
-unmount_early S A p = first (
+abbrev pub unmount_refusal : Setup → State → Path → Option Reply
+unmount_refusal S A p = first (
     stopped A
     ∷ touch A p Touch.Whole
     ∷ along A p
-    ∷ no NotMount (is_none (mount_at A.names p))
-    ∷ no IsMount (mount_must_stay A p)
-    ∷ no NotPersisted (list_any (λ (r : NodeRow). under r.0 p && is_unstored r.1) A.names.nodes)
+    ∷ refuse NotMount (is_none (mount_at A.names p))
+    ∷ refuse IsMount (mount_must_stay A p)
+    ∷ refuse NotPersisted (list_any (λ (r : NodeRow). under r.0 p && is_unstored r.1) A.names.nodes)
     ∷ past_area S A (Some (Change.Unmount p))
     ∷ [])
 
-abbrev pub list_early : State → Path → Option Reply
-list_early A p = first (
+abbrev pub list_refusal : State → Path → Option Reply
+list_refusal A p = first (
     stopped A
     ∷ touch A p Touch.Inside
     ∷ along A p
-    ∷ no NotDirectory (is_some (file_at A.names p))
+    ∷ refuse NotDirectory (is_some (file_at A.names p))
     ∷ [])
 
-abbrev pub stat_early : State → Path → Option Reply
-stat_early A p = first (stopped A ∷ touch A p Touch.Inside ∷ along A p ∷ [])
+abbrev pub stat_refusal : State → Path → Option Reply
+stat_refusal A p = first (stopped A ∷ touch A p Touch.Inside ∷ along A p ∷ [])
 
-abbrev pub where_early : State → Path → Option Reply
-where_early A p = first (
+abbrev pub where_refusal : State → Path → Option Reply
+where_refusal A p = first (
     stopped A
     ∷ touch A p Touch.Inside
     ∷ along A p
-    ∷ no IsDirectory (is_dir_at A p)
+    ∷ refuse IsDirectory (is_dir_at A p)
     ∷ [])

@@ -13,7 +13,7 @@ use Rattle.fs_model.specs.declared.reply.FileState.{FileState}
 use Rattle.fs_model.specs.declared.reply.CopyRow.{CopyRow}
 use Rattle.fs_model.specs.Words.{put_in_order, update_at}
 use Rattle.fs_model.specs.State.{State, File, NodeRow, Copied, Worker, Hand, Hands, Stray, StoreRows}
-use Rattle.fs_model.specs.Lookups.{file_at, worker, is_live, numbered, live_copies, lacks_some, awaited, key_of, children, stored_under, stored_is_wanted, file_in}
+use Rattle.fs_model.specs.Lookups.{file_at, worker, is_live, numbered, live_copies, store_of, lacks_some, awaited, key_of, children, stored_under, stored_is_wanted, file_in}
 use Rattle.fs_model.specs.NamesEvents.{mkdir_change, create_change, rename_change, remove_change, persist_change, mount_change, moves_objects, id_at}
 use Rattle.fs_model.specs.Updates.{journal, journal_if, add_hand, keep_contents, content, no_store}
 
@@ -27,6 +27,7 @@ create_outcome S A H l p kind w = (
   add_hand l (Hand.Writing (record {
     file = A.names.next_id;
     bs = S.block;
+    store = store_of A.names p;
     taken = [];
     kind = kind;
     worker = w;

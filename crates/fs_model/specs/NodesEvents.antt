@@ -10,21 +10,21 @@ use Rattle.fs_model.specs.declared.reply.Reply.{Reply}
 use Rattle.fs_model.specs.declared.reply.Refusal.TheVariants.{NoWorker}
 use Rattle.fs_model.specs.declared.reply.Which.{Which}
 use Rattle.fs_model.specs.Words.{first, under, path_eq, path_lt, path_len, block_count, ◌when◌, put_in_order, name_eq, update_at}
-use Rattle.fs_model.specs.State.{State, Names, NodeRow, MountRow, PlanRow, Copied, Worker, Seat, StoreRows, Stray, Progress, Doubt, Master, Content}
-use Rattle.fs_model.specs.Luck.{Luck}
-use Rattle.fs_model.specs.Lookups.{worker, seat, is_running, numbered, holders, file_of, plan_at, key_of, stored_under, mount_at}
+use Rattle.fs_model.specs.State.{State, Names, NodeRow, MountRow, PlanRow, Copied, Worker, Registration, StoreRows, Stray, Progress, Doubt, Master, Content}
+use Rattle.fs_model.specs.Choices.{Choices}
+use Rattle.fs_model.specs.Lookups.{worker, registration, is_running, numbered, holders, file_of, plan_at, key_of, stored_under, mount_at}
 use Rattle.fs_model.specs.NamesOutcomes.{strays_under}
 use Rattle.fs_model.specs.Changes.{apply, entry_len, missing_parts}
-use Rattle.fs_model.specs.Tests.{no, stopped, not_configured, past, past_ids, past_nodes, past_area, ◌only_if◌}
-use Rattle.fs_model.specs.Updates.{reserved, waiting_key, unpark_at, unpark_if, keep_contents, change_worker, change_seat, change_store, journal, journal_if, is_kept, is_pinned, spend, no_store}
+use Rattle.fs_model.specs.Tests.{refuse, stopped, not_configured, past, past_ids, past_nodes, past_area, ◌only_if◌}
+use Rattle.fs_model.specs.Updates.{reserved, waiting_key, unpark_at, unpark_if, keep_contents, change_worker, change_registration, change_store, journal, journal_if, is_kept, is_pinned, spend, no_store}
 
 -- ---- workers
 
 abbrev pub not_running : State → ℕ → Option Reply
-not_running A w = no (NoWorker w) (not (is_running A w))
+not_running A w = refuse (NoWorker w) (not (is_running A w))
 
-abbrev pub start_early : Setup → State → ℕ → Option Reply
-start_early S A w = first (not_configured S w ∷ (past_ids (worker A w).start only_if not (is_running A w)) ∷ [])
+abbrev pub start_refusal : Setup → State → ℕ → Option Reply
+start_refusal S A w = first (not_configured S w ∷ (past_ids (worker A w).start only_if not (is_running A w)) ∷ [])
 
 abbrev pub started : Worker → Worker
 started W = record { running = true; start = W.start + 1; next = 1; copies = []; rooms = []; litter = [] }
@@ -32,10 +32,10 @@ started W = record { running = true; start = W.start + 1; next = 1; copies = [];
 abbrev pub start_outcome : State → ℕ → Reply × State
 start_outcome A w =
     let runs = is_running A w in
-    (Reply.Done, change_seat w (λ s. record s { known = s.known && runs }) (change_worker w (λ W. cond runs W (started W)) A))
+    (Reply.Done, change_registration w (λ s. record s { known = s.known && runs }) (change_worker w (λ W. cond runs W (started W)) A))
 
-abbrev pub kill_early : Setup → State → ℕ → Option Reply
-kill_early S A w = first (not_configured S w ∷ not_running A w ∷ [])
+abbrev pub kill_refusal : Setup → State → ℕ → Option Reply
+kill_refusal S A w = first (not_configured S w ∷ not_running A w ∷ [])
 
 abbrev pub kill_outcome : State → ℕ → Reply × State
 kill_outcome A w = (Reply.Done, change_worker w (λ W. record W { running = false; copies = []; rooms = [] }) A)
@@ -43,8 +43,8 @@ kill_outcome A w = (Reply.Done, change_worker w (λ W. record W { running = fals
 abbrev pub seen_change : State → ℕ → Option Change
 seen_change A w = Change.Seen w when not (list_any (nat_eq w) A.names.seen)
 
-abbrev pub register_early : Setup → State → ℕ → Option Reply
-register_early S A w = first (
+abbrev pub register_refusal : Setup → State → ℕ → Option Reply
+register_refusal S A w = first (
     stopped A
     ∷ not_configured S w
     ∷ past_area S A (seen_change A w)
@@ -71,45 +71,45 @@ abbrev pub tell : ℕ → State → State
 tell w A = change_worker w (told A w) A
 
 abbrev pub register_outcome : State → ℕ → Reply × State
-register_outcome A w = (Reply.Done, tell w (change_seat w (λ s. record { known = true; awaited = false; silence = 0 }) (journal_if (seen_change A w) A)))
+register_outcome A w = (Reply.Done, tell w (change_registration w (λ s. record { known = true; awaited = false; silence = 0 }) (journal_if (seen_change A w) A)))
 
-abbrev pub beat_early : Setup → State → ℕ → Option Reply
-beat_early S A w = first (stopped A ∷ not_configured S w ∷ not_running A w ∷ [])
+abbrev pub beat_refusal : Setup → State → ℕ → Option Reply
+beat_refusal S A w = first (stopped A ∷ not_configured S w ∷ not_running A w ∷ [])
 
 abbrev pub beat_outcome : State → ℕ → Reply × State
 beat_outcome A w =
-    let known = (seat A w).known in (
+    let known = (registration A w).known in (
       cond known Reply.Done Reply.Register,
-      change_worker w (λ W. cond known (told A w W) W) (change_seat w (λ s. record s { silence = cond known 0 s.silence }) A),
+      change_worker w (λ W. cond known (told A w W) W) (change_registration w (λ s. record s { silence = cond known 0 s.silence }) A),
     )
 
-abbrev pub counts_silence : Seat → Bool
+abbrev pub counts_silence : Registration → Bool
 counts_silence s = s.known || s.awaited
 
-abbrev pub is_due : Setup → Seat → Bool
+abbrev pub is_due : Setup → Registration → Bool
 is_due S s = counts_silence s && nat_le S.patience (s.silence + 1)
 
 abbrev pub due : Setup → State → List ℕ
-due S A = filter_map (λ (r : ℕ × Seat). cond (is_due S r.1) (Some r.0) None) (numbered A.seats)
+due S A = filter_map (λ (r : ℕ × Registration). cond (is_due S r.1) (Some r.0) None) (numbered A.registrations)
 
 abbrev pub lost_change : List ℕ → Option Change
 lost_change [] = None
 lost_change (w ∷ ws) = Some (Change.Lost (w ∷ ws))
 
-abbrev pub tick_early : Setup → State → Option Reply
-tick_early S A = first (stopped A ∷ past_area S A (lost_change (due S A)) ∷ [])
+abbrev pub tick_refusal : Setup → State → Option Reply
+tick_refusal S A = first (stopped A ∷ past_area S A (lost_change (due S A)) ∷ [])
 
-abbrev pub ticked : Setup → Seat → Seat
+abbrev pub ticked : Setup → Registration → Registration
 ticked S s = cond (counts_silence s) (record { known = s.known && not (is_due S s); awaited = s.awaited && not (is_due S s); silence = s.silence + 1 }) s
 
-abbrev pub tick_seats : Setup → State → State
-tick_seats S A = record A { seats = map (ticked S) A.seats }
+abbrev pub tick_registrations : Setup → State → State
+tick_registrations S A = record A { registrations = map (ticked S) A.registrations }
 
 abbrev pub tick_outcome : Setup → State → Reply × State
-tick_outcome S A = (Reply.Done, journal_if (lost_change (due S A)) (tick_seats S A))
+tick_outcome S A = (Reply.Done, journal_if (lost_change (due S A)) (tick_registrations S A))
 
-abbrev pub sweep_early : Setup → State → ℕ → Option Reply
-sweep_early S A w = cond (nat_eq w 0) (stopped A) (kill_early S A w)
+abbrev pub sweep_refusal : Setup → State → ℕ → Option Reply
+sweep_refusal S A w = cond (nat_eq w 0) (stopped A) (kill_refusal S A w)
 
 abbrev pub sweep_worker : State → ℕ → List ℕ → Reply × State
 sweep_worker A w [] = (Reply.Ended, A)
@@ -149,8 +149,8 @@ checkpoint_gate N = 9 + 22 + sum_by (node_entry_len N) N.nodes + sum_by plan_ent
 abbrev pub checkpoint_calls : Names → ℕ
 checkpoint_calls N = 5 + (checkpoint_gate N + 65535) / 65536
 
-abbrev pub checkpoint_early : Setup → State → Option Reply
-checkpoint_early S A = first (
+abbrev pub checkpoint_refusal : Setup → State → Option Reply
+checkpoint_refusal S A = first (
     stopped A
     ∷ past Which.Area (nat_lt S.area (checkpoint_gate A.names + 1) || nat_le (2 ^ 64 - 1) A.master.generation)
     ∷ [])
@@ -221,11 +221,11 @@ with_doubt keeps A =
 abbrev pub recovered : State → State
 recovered A = record A {
   progress = [];
-  seats = map (λ (r : ℕ × Seat). record { known = false; awaited = list_any (nat_eq r.0) A.names.seen; silence = 0 }) (numbered A.seats);
+  registrations = map (λ (r : ℕ × Registration). record { known = false; awaited = list_any (nat_eq r.0) A.names.seen; silence = 0 }) (numbered A.registrations);
   master = record A.master { up = true; doubt = None; fuse = None };
 }
 
-abbrev pub restart_outcome : Luck → State → Reply × State
+abbrev pub restart_outcome : Choices → State → Reply × State
 restart_outcome k A = (Reply.Done, recovered (with_doubt k.keeps A))
 
 -- ---- plans
@@ -309,23 +309,23 @@ loaded_change A m x = Change.Loaded A.names.next_id (path_of_key m x.key) (lengt
 
 -- ---- Pump
 
-abbrev pub load_early : Setup → State → PlanRow → Load → Option Reply
-load_early S A r Load.Nothing = past_area S A (Some (Change.PlanEnd r.number))
-load_early S A r (Load.PassOver x) = None
-load_early S A r (Load.Take m x) = first (
+abbrev pub load_refusal : Setup → State → PlanRow → Load → Option Reply
+load_refusal S A r Load.Nothing = past_area S A (Some (Change.PlanEnd r.number))
+load_refusal S A r (Load.PassOver x) = None
+load_refusal S A r (Load.Take m x) = first (
     past_nodes A (length (missing_parts A.names (path_of_key m x.key)) + 1)
     ∷ past_ids A.names.next_id
     ∷ past_area S A (Some (loaded_change A m x))
     ∷ [])
 
-abbrev pub pump_early_of : Setup → State → PlanRow → Option Reply
-pump_early_of S A r = elim r.kind as (λ k. Option Reply) [
-  | PlanKind.Load ↦ load_early S A r (load_next S A r)
+abbrev pub pump_refusal_of : Setup → State → PlanRow → Option Reply
+pump_refusal_of S A r = elim r.kind as (λ k. Option Reply) [
+  | PlanKind.Load ↦ load_refusal S A r (load_next S A r)
   | _ ↦ past_area S A (Change.PlanEnd r.number when nat_eq (length (actions_left A r)) 0)
 ]
 
-abbrev pub pump_early : Setup → State → ℕ → Option Reply
-pump_early S A n = first (stopped A ∷ elim (plan_at A.names n) [ None ↦ None | Some r ↦ pump_early_of S A r ] ∷ [])
+abbrev pub pump_refusal : Setup → State → ℕ → Option Reply
+pump_refusal S A n = first (stopped A ∷ elim (plan_at A.names n) [ None ↦ None | Some r ↦ pump_refusal_of S A r ] ∷ [])
 
 abbrev pub end_of_plan : State → PlanRow → Reply × State
 end_of_plan A r = (Reply.Ended, record (journal (Change.PlanEnd r.number) A) { progress = filter (λ g. not (nat_eq g.plan r.number)) A.progress })

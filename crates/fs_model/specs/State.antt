@@ -80,7 +80,7 @@ pub record Worker : Type 0 where
   pub litter : List ℕ
 
 -- what the master knows of a worker
-pub record Seat : Type 0 where
+pub record Registration : Type 0 where
   pub known : Bool
   pub awaited : Bool
   pub silence : ℕ
@@ -119,9 +119,11 @@ pub record OpenBlock : Type 0 where
   pub room : Option ℕ
   pub len : ℕ
 
+-- the blocks before the open one are committed; `store` is the one in which its object is made, where it makes one
 pub record Writer : Type 0 where
   pub file : ℕ
   pub bs : ℕ
+  pub store : ℕ
   pub taken : List ℕ
   pub kind : WriteType
   pub worker : ℕ
@@ -137,9 +139,11 @@ pub record Mover : Type 0 where
   pub copied : ℕ
   pub broken : Bool
 
+-- `store` is the one in which its object is made
 pub record JobHand : Type 0 where
   pub file : ℕ
   pub bs : ℕ
+  pub store : ℕ
   pub bytes : List ℕ
   pub at : ℕ
   pub source : Option Source
@@ -206,7 +210,7 @@ pub record State : Type 0 where
   pub names : Names
   pub contents : List Content
   pub progress : List Progress
-  pub seats : List Seat
+  pub registrations : List Registration
   pub workers : List Worker
   pub stores : List StoreRows
   pub holds : List HoldRow

@@ -14,11 +14,11 @@ use Rattle.fs_model.specs.Lookups.{Walk, Touch, walk_nodes, walk_above, busy, is
 use Rattle.fs_model.specs.Changes.{entry_len}
 
 -- the event is refused where the test passes
-abbrev pub no : Refusal → Bool → Option Reply
-no r b = Reply.Refused r when b
+abbrev pub refuse : Refusal → Bool → Option Reply
+refuse r b = Reply.Refused r when b
 
 abbrev pub stopped : State → Option Reply
-stopped A = no Stopped (not A.master.up)
+stopped A = refuse Stopped (not A.master.up)
 
 abbrev pub touch : State → Path → Touch → Option Reply
 touch A p t = option_map (λ n. Reply.Refused (Busy n)) (busy A.names p t)
@@ -37,22 +37,22 @@ abbrev pub along_new : State → Path → Option Reply
 along_new A p = walk_fault (walk_above A.names.nodes p)
 
 abbrev pub label_taken : Hands → Label → Option Reply
-label_taken H l = no BadLabel (has_label H l)
+label_taken H l = refuse BadLabel (has_label H l)
 
 -- worker 0 means none
 abbrev pub not_configured : Setup → ℕ → Option Reply
-not_configured S w = no (NoWorker w) (not (is_configured S w))
+not_configured S w = refuse (NoWorker w) (not (is_configured S w))
 
 abbrev pub not_configured_if_any : Setup → ℕ → Option Reply
-not_configured_if_any S w = no (NoWorker w) (not (nat_eq w 0) && not (is_configured S w))
+not_configured_if_any S w = refuse (NoWorker w) (not (nat_eq w 0) && not (is_configured S w))
 
 abbrev pub not_live : State → ℕ → Option Reply
-not_live A w = no (NoWorker w) (not (is_live A w))
+not_live A w = refuse (NoWorker w) (not (is_live A w))
 
 -- ---- limits
 
 abbrev pub past : Which → Bool → Option Reply
-past w b = no (Limit w) b
+past w b = refuse (Limit w) b
 
 abbrev pub past_nodes : State → ℕ → Option Reply
 past_nodes A n = past Which.Nodes (nat_lt 1048576 (length A.names.nodes + n))

@@ -7,15 +7,15 @@ use Rattle.fs_model.specs.declared.prefix.Prefix.{Prefix}
 use Rattle.fs_model.specs.declared.reply.Stored.{Stored}
 use Rattle.fs_model.specs.declared.change.Change.{Change}
 use Rattle.fs_model.specs.Words.{number_text, put_in_order, name_eq, update_at, update_where}
-use Rattle.fs_model.specs.State.{Parked, State, Names, Copied, RoomRow, Worker, Seat, Hold, Hand, Hands, HoldRow, StoreRows, Master}
-use Rattle.fs_model.specs.Lookups.{key_of, path_of, no_worker, no_seat, copy_of, file_of, stored_is_yes, row_of, runs_since}
+use Rattle.fs_model.specs.State.{Parked, State, Names, Copied, RoomRow, Worker, Registration, Hold, Hand, Hands, HoldRow, StoreRows, Master}
+use Rattle.fs_model.specs.Lookups.{key_of, path_of, no_worker, unregistered, copy_of, file_of, stored_is_yes, row_of, runs_since}
 use Rattle.fs_model.specs.Changes.{apply, entry_len}
 
 abbrev pub change_worker : ℕ → (Worker → Worker) → State → State
 change_worker w change A = record A { workers = update_at (pred w) no_worker change A.workers }
 
-abbrev pub change_seat : ℕ → (Seat → Seat) → State → State
-change_seat w change A = record A { seats = update_at (pred w) no_seat change A.seats }
+abbrev pub change_registration : ℕ → (Registration → Registration) → State → State
+change_registration w change A = record A { registrations = update_at (pred w) unregistered change A.registrations }
 
 abbrev pub no_store : StoreRows
 no_store = record { parked = []; strays = [] }

@@ -1,5 +1,5 @@
--- Worked examples: the replies to short scripts, computed.
-use Rattle.std.specs.Prelude.{◌≡◌, refl, ℕ, zero, suc, ◌+◌, true, false, List, [], ◌∷◌, ◌++◌, map, codes}
+-- Worked examples: the replies to short scripts, computed from the definitions.
+use Rattle.std.specs.Prelude.{◌≡◌, refl, ℕ, zero, suc, ◌+◌, Bool, true, false, Option, None, Some, List, [], ◌∷◌, ◌++◌, map, codes}
 use Rattle.fs_model.specs.declared.setup.Setup.{Setup}
 use Rattle.fs_model.specs.declared.path.Path.{Path}
 use Rattle.fs_model.specs.declared.label.Label.{Label}
@@ -11,11 +11,18 @@ use Rattle.fs_model.specs.declared.reply.Reply.{Reply}
 use Rattle.fs_model.specs.declared.reply.Refusal.{Refusal}
 use Rattle.fs_model.specs.declared.reply.FileState.{FileState}
 use Rattle.fs_model.specs.declared.reply.Which.{Which}
-use Rattle.fs_model.specs.State.{Whole}
+use Rattle.fs_model.specs.declared.name.Name.{Name}
+use Rattle.fs_model.specs.Words.{number_text}
+use Rattle.fs_model.specs.Choices.{fault_free}
+use Rattle.fs_model.specs.Lookups.{children}
+use Rattle.fs_model.specs.Journaling.{doubt_of}
+use Rattle.fs_model.specs.Faults.{Remains, BlockFate, Rise, after_fault, may_fail}
+use Rattle.fs_model.specs.Step.{Step, stopped_with}
+use Rattle.fs_model.specs.State.{Whole, State, Hands}
 use Rattle.fs_model.specs.Opening.{fresh}
-use Rattle.fs_model.specs.Mirror.{settled_objects}
-use Rattle.fs_model.specs.NodesEvents.{Object}
-use Rattle.fs_model.specs.Machine.{replies, final}
+use Rattle.fs_model.specs.Mirror.{settled_objects, bytes_at, Side}
+use Rattle.fs_model.specs.NodesEvents.{Object, restart_outcome}
+use Rattle.fs_model.specs.Machine.{replies, final, refusal, hands_of}
 
 abbrev pub c1 : Setup
 c1 = record { block = 4; patience = 3; area = 1073741824; root = []; stores = 2; tiers = (8 ∷ 8 ∷ []) ∷ (8 ∷ []) ∷ [] }
@@ -45,7 +52,7 @@ told_after S before script = replies S (final S (fresh S) before) script
 abbrev pub no_events : Script
 no_events = []
 
-row_2 : told_after c1 no_events (one (
+names_are_made_and_shown : told_after c1 no_events (one (
     Event.Mkdir (codes "a" ∷ [])
     ∷ Event.Mkdir (codes "a" ∷ [])
     ∷ Event.Mkdir (codes "x" ∷ codes "y" ∷ [])
@@ -58,13 +65,10 @@ row_2 : told_after c1 no_events (one (
     ∷ Reply.Names (codes "a" ∷ [])
     ∷ Reply.StatDir
     ∷ []
-row_2 = refl
-
-abbrev pub p_ : Path
-p_ = []
+names_are_made_and_shown = refl
 
 -- an empty file
-row_4 : told_after c1 (up 1) (one (
+an_empty_file_ends_at_once : told_after c1 (up 1) (one (
     Event.Create (codes "f") (codes "e" ∷ []) WriteType.MustCache 1
     ∷ Event.Finish (codes "f")
     ∷ Event.OpenFile (codes "r") (codes "e" ∷ []) ReadType.NoCache 0
@@ -79,10 +83,10 @@ row_4 : told_after c1 (up 1) (one (
     ∷ Reply.Done
     ∷ Reply.StatFile 1 0 FileState.NotPersisted false
     ∷ []
-row_4 = refl
+an_empty_file_ends_at_once = refl
 
 -- two blocks, read back
-row_5 : told_after c1 (up 1 ++ copyin (codes "f") (codes "t" ∷ []) WriteType.MustCache 1 0 2) (one (
+two_blocks_are_read_back : told_after c1 (up 1 ++ copyin (codes "f") (codes "t" ∷ []) WriteType.MustCache 1 0 2) (one (
     Event.OpenFile (codes "r") (codes "t" ∷ []) ReadType.NoCache 0
     ∷ Event.Poll (codes "r") 65536
     ∷ Event.Next (codes "r")
@@ -103,10 +107,10 @@ row_5 : told_after c1 (up 1 ++ copyin (codes "f") (codes "t" ∷ []) WriteType.M
     ∷ Reply.End
     ∷ Reply.Done
     ∷ []
-row_5 = refl
+two_blocks_are_read_back = refl
 
 -- a file that isn't done can't be opened
-row_6 : told_after c1 (up 1) (one (
+an_unfinished_file_is_not_opened : told_after c1 (up 1) (one (
     Event.Create (codes "f") (codes "a" ∷ []) WriteType.MustCache 1
     ∷ Event.OpenFile (codes "r") (codes "a" ∷ []) ReadType.Cache 1
     ∷ Event.Finish (codes "f")
@@ -121,9 +125,9 @@ row_6 : told_after c1 (up 1) (one (
     ∷ Reply.End
     ∷ Reply.Refused Refusal.BadLabel
     ∷ []
-row_6 = refl
+an_unfinished_file_is_not_opened = refl
 
-row_7 : told_after c1 (one (Event.Mkdir (codes "a" ∷ []) ∷ Event.Mkdir (codes "ab" ∷ []) ∷ [])) (one (
+directories_are_renamed_and_removed : told_after c1 (one (Event.Mkdir (codes "a" ∷ []) ∷ Event.Mkdir (codes "ab" ∷ []) ∷ [])) (one (
     Event.Rename (codes "a" ∷ []) (codes "a" ∷ codes "b" ∷ [])
     ∷ Event.Rename (codes "a" ∷ []) (codes "a" ∷ [])
     ∷ Event.Remove [] true
@@ -136,9 +140,9 @@ row_7 : told_after c1 (one (Event.Mkdir (codes "a" ∷ []) ∷ Event.Mkdir (code
     ∷ Reply.Done
     ∷ Reply.Names (codes "ab" ∷ [])
     ∷ []
-row_7 = refl
+directories_are_renamed_and_removed = refl
 
--- the settling of row 9, event by event: the job of /a, its publishing, a beat, and the sweep
+-- what `settle` does, event by event: the job of /a, its publishing, a beat, and the sweep
 abbrev pub settle_a : Script
 settle_a = one (
     Event.Wanted
@@ -158,7 +162,7 @@ settle_a = one (
     ∷ Event.Sweep 2
     ∷ [])
 
-row_9 : told_after c1 (up 2 ++ copyin (codes "a") (codes "a" ∷ []) WriteType.MustCache 2 0 1 ++ copyin (codes "b") (codes "b" ∷ []) WriteType.MustCache 2 1 1) (one (
+a_persisted_block_makes_room : told_after c1 (up 2 ++ copyin (codes "a") (codes "a" ∷ []) WriteType.MustCache 2 0 1 ++ copyin (codes "b") (codes "b" ∷ []) WriteType.MustCache 2 1 1) (one (
     Event.Create (codes "c") (codes "c" ∷ []) WriteType.MustCache 2
     ∷ Event.Put (codes "c") (Fill.Listed (170 ∷ []))
     ∷ Event.Room (codes "c")
@@ -191,13 +195,13 @@ row_9 : told_after c1 (up 2 ++ copyin (codes "a") (codes "a" ∷ []) WriteType.M
     ∷ Reply.Copies []
     ∷ Reply.Copies (record { block = 0; worker = 2; tier = 0; keep = true; pin = false; free = false } ∷ [])
     ∷ []
-row_9 = refl
+a_persisted_block_makes_room = refl
 
-abbrev pub row_10_before : Script
-row_10_before = up 1 ++ copyin (codes "f") (codes "a" ∷ []) WriteType.MustCache 1 0 1
+abbrev pub one_kept_block : Script
+one_kept_block = up 1 ++ copyin (codes "f") (codes "a" ∷ []) WriteType.MustCache 1 0 1
 
-abbrev pub row_10_script : Script
-row_10_script =
+abbrev pub a_move_beside_a_reader : Script
+a_move_beside_a_reader =
     (1, Event.OpenFile (codes "r") (codes "a" ∷ []) ReadType.NoCache 0)
     ∷ (1, Event.Next (codes "r"))
     ∷ (1, Event.Poll (codes "r") 2)
@@ -212,7 +216,7 @@ row_10_script =
     ∷ (1, Event.Where (codes "a" ∷ []))
     ∷ []
 
-row_10 : told_after c1 row_10_before row_10_script ≡
+a_move_waits_for_the_other_holder : told_after c1 one_kept_block a_move_beside_a_reader ≡
     Reply.Opened 4
     ∷ Reply.FromWorker 1 0
     ∷ Reply.Given (0 ∷ 1 ∷ [])
@@ -226,10 +230,10 @@ row_10 : told_after c1 row_10_before row_10_script ≡
     ∷ Reply.Done
     ∷ Reply.Copies (record { block = 0; worker = 1; tier = 1; keep = true; pin = false; free = false } ∷ [])
     ∷ []
-row_10 = refl
+a_move_waits_for_the_other_holder = refl
 
 -- a stream goes on in the file that it opened, whatever stands at its path later
-row_11 : told_after c1 (up 1 ++ up 2 ++ copyin (codes "f") (codes "a" ∷ []) WriteType.MustCache 1 0 2) ((one (
+a_stream_stays_with_its_file : told_after c1 (up 1 ++ up 2 ++ copyin (codes "f") (codes "a" ∷ []) WriteType.MustCache 1 0 2) ((one (
     Event.OpenFile (codes "r") (codes "a" ∷ []) ReadType.NoCache 0
     ∷ Event.Next (codes "r")
     ∷ Event.Poll (codes "r") 2
@@ -252,10 +256,10 @@ row_11 : told_after c1 (up 1 ++ up 2 ++ copyin (codes "f") (codes "a" ∷ []) Wr
     ∷ Reply.NeedsBlock 1
     ∷ Reply.Refused Refusal.NotFound
     ∷ []
-row_11 = refl
+a_stream_stays_with_its_file = refl
 
--- the moved copy of row 10 is promoted by a stream of worker 1
-row_22 : told_after c1 (row_10_before ++ row_10_script) (one (
+-- the moved copy of the example above is promoted by a stream of worker 1
+a_moved_block_is_promoted : told_after c1 (one_kept_block ++ a_move_beside_a_reader) (one (
     Event.OpenFile (codes "r") (codes "a" ∷ []) ReadType.CachePromote 1
     ∷ Event.Poll (codes "r") 65536
     ∷ Event.Next (codes "r")
@@ -272,10 +276,10 @@ row_22 : told_after c1 (row_10_before ++ row_10_script) (one (
     ∷ Reply.Done
     ∷ Reply.Copies (record { block = 0; worker = 1; tier = 0; keep = true; pin = false; free = false } ∷ [])
     ∷ []
-row_22 = refl
+a_moved_block_is_promoted = refl
 
 -- a writer that finds no room writes through
-row_26 : told_after c1 (up 2 ++ copyin (codes "a") (codes "a" ∷ []) WriteType.MustCache 2 0 1 ++ copyin (codes "b") (codes "b" ∷ []) WriteType.MustCache 2 1 1) (one (
+a_writer_without_room_writes_through : told_after c1 (up 2 ++ copyin (codes "a") (codes "a" ∷ []) WriteType.MustCache 2 0 1 ++ copyin (codes "b") (codes "b" ∷ []) WriteType.MustCache 2 1 1) (one (
     Event.Create (codes "c") (codes "c" ∷ []) WriteType.CacheThrough 2
     ∷ Event.Room (codes "c")
     ∷ Event.Put (codes "c") (Fill.Made 3 0 4)
@@ -298,9 +302,9 @@ row_26 : told_after c1 (up 2 ++ copyin (codes "a") (codes "a" ∷ []) WriteType.
     ∷ Reply.FromStore 1
     ∷ Reply.Given (3 ∷ 4 ∷ 5 ∷ 6 ∷ [])
     ∷ []
-row_26 = refl
+a_writer_without_room_writes_through = refl
 
-row_28 : told_after c1 (up 1 ++ copyin (codes "f") (codes "a" ∷ []) WriteType.AsyncThrough 1 0 1) (one (
+an_asynchronous_file_is_persisted_by_a_job : told_after c1 (up 1 ++ copyin (codes "f") (codes "a" ∷ []) WriteType.AsyncThrough 1 0 1) (one (
     Event.Stat (codes "a" ∷ [])
     ∷ Event.Free (codes "a" ∷ [])
     ∷ Event.Wanted
@@ -333,9 +337,9 @@ row_28 : told_after c1 (up 1 ++ copyin (codes "f") (codes "a" ∷ []) WriteType.
     ∷ Reply.StatFile 1 4 FileState.Persisted false
     ∷ Reply.Idle
     ∷ []
-row_28 = refl
+an_asynchronous_file_is_persisted_by_a_job = refl
 
-row_29 : told_after c1 no_events (one (
+a_mount_survives_checkpoint_and_restart : told_after c1 no_events (one (
     Event.Mkdir (codes "a" ∷ [])
     ∷ Event.Mount (codes "a" ∷ codes "m" ∷ []) 2 []
     ∷ Event.Pump 1
@@ -356,10 +360,10 @@ row_29 : told_after c1 no_events (one (
     ∷ Reply.Done
     ∷ Reply.Names []
     ∷ []
-row_29 = refl
+a_mount_survives_checkpoint_and_restart = refl
 
-abbrev pub row_4_1_script : Script
-row_4_1_script = one (
+abbrev pub a_publishing : Script
+a_publishing = one (
     Event.Create (codes "f") (codes "a" ∷ []) WriteType.Through 0
     ∷ Event.Put (codes "f") (Fill.Listed (1 ∷ 2 ∷ []))
     ∷ Event.Room (codes "f")
@@ -373,7 +377,7 @@ row_4_1_script = one (
     ∷ Event.Poll (codes "r") 9
     ∷ [])
 
-row_4_1 : told_after c1 no_events row_4_1_script ≡
+a_finished_file_is_published : told_after c1 no_events a_publishing ≡
     Reply.Done
     ∷ Reply.NeedsRoom
     ∷ Reply.Done
@@ -386,9 +390,9 @@ row_4_1 : told_after c1 no_events row_4_1_script ≡
     ∷ Reply.FromStore 1
     ∷ Reply.Given (1 ∷ 2 ∷ [])
     ∷ []
-row_4_1 = refl
+a_finished_file_is_published = refl
 
-row_5_1 : told_after c1 row_4_1_script (one (
+a_removed_file_leaves_its_store : told_after c1 a_publishing (one (
     Event.Close (codes "r")
     ∷ Event.Remove (codes "a" ∷ []) false
     ∷ Event.Mkdir (codes "a" ∷ [])
@@ -405,9 +409,9 @@ row_5_1 : told_after c1 row_4_1_script (one (
     ∷ Reply.Done
     ∷ Reply.Ended
     ∷ []
-row_5_1 = refl
+a_removed_file_leaves_its_store = refl
 
-row_7_1 : told_after c1 (up 2 ++ copyin (codes "a") (codes "a" ∷ []) WriteType.CacheThrough 2 0 1 ++ one (Event.Pump 1 ∷ Event.Pump 1 ∷ []) ++ copyin (codes "b") (codes "b" ∷ []) WriteType.CacheThrough 2 1 1 ++ one (Event.Pump 2 ∷ Event.Pump 2 ∷ [])) (one (
+persisted_blocks_give_way_after_a_beat : told_after c1 (up 2 ++ copyin (codes "a") (codes "a" ∷ []) WriteType.CacheThrough 2 0 1 ++ one (Event.Pump 1 ∷ Event.Pump 1 ∷ []) ++ copyin (codes "b") (codes "b" ∷ []) WriteType.CacheThrough 2 1 1 ++ one (Event.Pump 2 ∷ Event.Pump 2 ∷ [])) (one (
     Event.Create (codes "c") (codes "c" ∷ []) WriteType.MustCache 2
     ∷ Event.Room (codes "c")
     ∷ Event.Beat 2
@@ -426,10 +430,10 @@ row_7_1 : told_after c1 (up 2 ++ copyin (codes "a") (codes "a" ∷ []) WriteType
     ∷ Reply.Stepped
     ∷ Reply.Ended
     ∷ []
-row_7_1 = refl
+persisted_blocks_give_way_after_a_beat = refl
 
 -- an unpersisted block is lost with its worker
-row_8 : told_after c1 (up 1 ++ copyin (codes "f") (codes "m" ∷ []) WriteType.MustCache 1 0 1 ++ copyin (codes "f") (codes "c" ∷ []) WriteType.CacheThrough 1 1 1 ++ one (Event.Pump 1 ∷ Event.Pump 1 ∷ [])) (one (
+unpersisted_blocks_are_lost_with_their_worker : told_after c1 (up 1 ++ copyin (codes "f") (codes "m" ∷ []) WriteType.MustCache 1 0 1 ++ copyin (codes "f") (codes "c" ∷ []) WriteType.CacheThrough 1 1 1 ++ one (Event.Pump 1 ∷ Event.Pump 1 ∷ [])) (one (
     Event.Kill 1
     ∷ Event.OpenFile (codes "r") (codes "m" ∷ []) ReadType.NoCache 0
     ∷ Event.Next (codes "r")
@@ -446,10 +450,10 @@ row_8 : told_after c1 (up 1 ++ copyin (codes "f") (codes "m" ∷ []) WriteType.M
     ∷ Reply.FromStore 1
     ∷ Reply.Given (1 ∷ 2 ∷ 3 ∷ 4 ∷ [])
     ∷ []
-row_8 = refl
+unpersisted_blocks_are_lost_with_their_worker = refl
 
 -- safe mode after a restart
-row_15 : told_after c1 (up 1 ++ up 2 ++ copyin (codes "f") (codes "u" ∷ []) WriteType.MustCache 2 0 1 ++ copyin (codes "f") (codes "p" ∷ []) WriteType.Through 0 1 1 ++ one (Event.Pump 1 ∷ Event.Pump 1 ∷ [])) (one (
+unpersisted_blocks_wait_for_awaited_workers : told_after c1 (up 1 ++ up 2 ++ copyin (codes "f") (codes "u" ∷ []) WriteType.MustCache 2 0 1 ++ copyin (codes "f") (codes "p" ∷ []) WriteType.Through 0 1 1 ++ one (Event.Pump 1 ∷ Event.Pump 1 ∷ [])) (one (
     Event.Restart
     ∷ Event.Register 1
     ∷ Event.OpenFile (codes "r") (codes "u" ∷ []) ReadType.NoCache 0
@@ -476,9 +480,9 @@ row_15 : told_after c1 (up 1 ++ up 2 ++ copyin (codes "f") (codes "u" ∷ []) Wr
     ∷ Reply.Done
     ∷ Reply.FromWorker 2 0
     ∷ []
-row_15 = refl
+unpersisted_blocks_wait_for_awaited_workers = refl
 
-row_21 : told_after c1 (up 2 ++ copyin (codes "f") (codes "p" ∷ []) WriteType.CacheThrough 2 0 1 ++ one (Event.Pump 1 ∷ Event.Pump 1 ∷ [])) (one (
+pinned_blocks_are_not_freed : told_after c1 (up 2 ++ copyin (codes "f") (codes "p" ∷ []) WriteType.CacheThrough 2 0 1 ++ one (Event.Pump 1 ∷ Event.Pump 1 ∷ [])) (one (
     Event.Pin (codes "p" ∷ []) true
     ∷ Event.Free (codes "p" ∷ [])
     ∷ Event.Pin (codes "p" ∷ []) false
@@ -497,26 +501,26 @@ row_21 : told_after c1 (up 2 ++ copyin (codes "f") (codes "p" ∷ []) WriteType.
     ∷ Reply.Stepped
     ∷ Reply.Ended
     ∷ []
-row_21 = refl
+pinned_blocks_are_not_freed = refl
 
 abbrev pub c1_small : Setup
 c1_small = record c1 { area = 64 }
 
-row_23 : told_after c1_small no_events (one (Event.Mkdir (codes "a" ∷ []) ∷ Event.List [] ∷ [])) ≡ Reply.Refused (Refusal.Limit Which.Area) ∷ Reply.Names [] ∷ []
-row_23 = refl
+a_full_area_refuses_changes : told_after c1_small no_events (one (Event.Mkdir (codes "a" ∷ []) ∷ Event.List [] ∷ [])) ≡ Reply.Refused (Refusal.Limit Which.Area) ∷ Reply.Names [] ∷ []
+a_full_area_refuses_changes = refl
 
 -- the gates of the worked bytes: 54 when fresh, 64 after a mkdir, 84 after a checkpoint
 abbrev pub gate_after : Script → ℕ
 gate_after es = (final c1 (fresh c1) es).body.master.gate
 
-row_gates : (gate_after no_events ≡ 54) × (gate_after (one (Event.Mkdir (codes "a" ∷ []) ∷ [])) ≡ 64) × (gate_after (one (Event.Mkdir (codes "a" ∷ []) ∷ Event.Checkpoint ∷ [])) ≡ 84)
-row_gates = (refl, refl, refl)
+gates_stand_where_the_journal_has_them : (gate_after no_events ≡ 54) × (gate_after (one (Event.Mkdir (codes "a" ∷ []) ∷ [])) ≡ 64) × (gate_after (one (Event.Mkdir (codes "a" ∷ []) ∷ Event.Checkpoint ∷ [])) ≡ 84)
+gates_stand_where_the_journal_has_them = (refl, refl, refl)
 
 -- store 2 holds two objects, which a mount loads
 abbrev pub stocked : Whole
 stocked = record { body = record (fresh c1).body { stores = record { parked = []; strays = [] } ∷ record { parked = []; strays = record { key = codes "d" ∷ codes "x" ∷ []; bytes = codes "abc" } ∷ record { key = codes "d" ∷ codes "y z" ∷ []; bytes = codes "1" } ∷ [] } ∷ [] }; hands = (fresh c1).hands }
 
-row_17 : replies c1 stocked (one (
+a_mount_loads_its_store : replies c1 stocked (one (
     Event.Mount (codes "m" ∷ []) 2 (codes "d" ∷ [])
     ∷ Event.List (codes "m" ∷ [])
     ∷ Event.Pump 1
@@ -557,11 +561,103 @@ row_17 : replies c1 stocked (one (
     ∷ Reply.Refused Refusal.IsMount
     ∷ Reply.Done
     ∷ []
-row_17 = refl
+a_mount_loads_its_store = refl
 
 abbrev pub mirror_of : Script → List (List Object)
 mirror_of es = let A = (final c1 (fresh c1) es).body in settled_objects A 1 ∷ settled_objects A 2 ∷ []
 
 -- the store holds the file once its publishing has ended, and nothing after the removal
-row_4_1_store : mirror_of row_4_1_script ≡ ((codes "a" ∷ [], 1 ∷ 2 ∷ []) ∷ []) ∷ [] ∷ []
-row_4_1_store = refl
+a_published_object_is_in_its_store : mirror_of a_publishing ≡ ((codes "a" ∷ [], 1 ∷ 2 ∷ []) ∷ []) ∷ [] ∷ []
+a_published_object_is_in_its_store = refl
+
+-- ---- a stop of the master
+
+-- `mkdir /y`, `fuse 3`, and a `mkdir /z` whose append needs four calls
+abbrev pub before_the_stop : Whole
+before_the_stop = final c1 (fresh c1) (one (Event.Mkdir (codes "y" ∷ []) ∷ Event.Fuse 3 ∷ []))
+
+abbrev pub make_z : Event
+make_z = Event.Mkdir (codes "z" ∷ [])
+
+abbrev pub stopped_body : State
+stopped_body = stopped_with (doubt_of c1 before_the_stop.body [] make_z) (Some 0) before_the_stop.body
+
+abbrev pub any_remains : Remains
+any_remains = record { begun = false; fate = BlockFate.IsGone; keeps_room = true; parks = true; acted = false; breaks = false }
+
+abbrev pub no_rise : Rise
+no_rise = record { stores = []; tiers = []; journal = 0; waits = 0 }
+
+-- a fuse that is too short stops the master, though no count rose
+a_short_fuse_stops_the_master : Step c1 before_the_stop.body 1 [] make_z (Reply.Refused Refusal.JournalFault) stopped_body [] no_rise None
+a_short_fuse_stops_the_master = Step.Stops any_remains (Some 0) refl refl refl refl refl refl refl refl refl refl
+
+abbrev pub names_after_restart : Bool → List Name
+names_after_restart keeps = children (restart_outcome (record (fault_free 0) { keeps = keeps }) stopped_body).1.names []
+
+-- a restart finds the change that was in doubt, or doesn't
+a_change_in_doubt_is_there_or_not : (names_after_restart true ≡ codes "y" ∷ codes "z" ∷ []) × (names_after_restart false ≡ codes "y" ∷ [])
+a_change_in_doubt_is_there_or_not = (refl, refl)
+
+-- ---- a rename that is under way
+
+-- `/d/a` is published and `/d` renamed to `/e`, with the object's move still to do
+abbrev pub a_rename_under_way : State
+a_rename_under_way = (final c1 (fresh c1) (one (
+    Event.Mkdir (codes "d" ∷ [])
+    ∷ Event.Create (codes "f") (codes "d" ∷ codes "a" ∷ []) WriteType.Through 0
+    ∷ Event.Room (codes "f")
+    ∷ Event.Put (codes "f") (Fill.Listed (7 ∷ []))
+    ∷ Event.Finish (codes "f")
+    ∷ Event.Pump 1
+    ∷ Event.Pump 1
+    ∷ Event.Rename (codes "d" ∷ []) (codes "e" ∷ [])
+    ∷ []))).body
+
+abbrev pub side : Bool → List Side
+side done = record { done = done; old = [] } ∷ []
+
+-- the object is at the old key or at the new one, and at no other
+an_object_is_at_one_of_two_keys : (bytes_at a_rename_under_way (side false) 1 (codes "d" ∷ codes "a" ∷ []) ≡ Some (7 ∷ [])) × (bytes_at a_rename_under_way (side false) 1 (codes "e" ∷ codes "a" ∷ []) ≡ None) × (bytes_at a_rename_under_way (side true) 1 (codes "d" ∷ codes "a" ∷ []) ≡ None) × (bytes_at a_rename_under_way (side true) 1 (codes "e" ∷ codes "a" ∷ []) ≡ Some (7 ∷ []))
+an_object_is_at_one_of_two_keys = (refl, refl, refl, refl)
+
+-- ---- a tier that fails
+
+-- a file of one byte more in an open block
+abbrev pub while_writing : Whole
+while_writing = final c1 (fresh c1) (up 1 ++ one (Event.Create (codes "f") (codes "a" ∷ []) WriteType.MustCache 1 ∷ Event.Room (codes "f") ∷ Event.Put (codes "f") (Fill.Listed (7 ∷ [])) ∷ []))
+
+abbrev pub put_more : Event
+put_more = Event.Put (codes "f") (Fill.Listed (8 ∷ []))
+
+abbrev pub tier_1_rose : Rise
+tier_1_rose = record no_rise { tiers = 1 ∷ [] }
+
+abbrev pub labels_of_1 : Whole → Hands
+labels_of_1 W = hands_of W 1
+
+-- a fault of the tier breaks the label
+a_failed_put_breaks_its_label : Step c1 while_writing.body 1 (labels_of_1 while_writing) put_more (Reply.Refused (Refusal.TierFault 1)) while_writing.body (after_fault c1 any_remains while_writing.body 1 (labels_of_1 while_writing) put_more).1 tier_1_rose None
+a_failed_put_breaks_its_label = Step.Failed any_remains refl refl refl refl
+
+-- and then only `close` takes the label
+a_broken_label_can_only_be_closed : (refusal c1 while_writing.body (after_fault c1 any_remains while_writing.body 1 (labels_of_1 while_writing) put_more).1 (Event.Finish (codes "f")) ≡ Some (Reply.Refused Refusal.BadLabel)) × (refusal c1 while_writing.body (after_fault c1 any_remains while_writing.body 1 (labels_of_1 while_writing) put_more).1 (Event.Close (codes "f")) ≡ None)
+a_broken_label_can_only_be_closed = (refl, refl)
+
+-- no other device may be named: the store isn't called by this Put, and worker 2 neither
+no_other_fault_may_come : (may_fail c1 any_remains while_writing.body (labels_of_1 while_writing) put_more (record no_rise { stores = 1 ∷ []; tiers = 1 ∷ 1 ∷ [] }) (Reply.Refused (Refusal.UnderFault 1)) ≡ false) × (may_fail c1 any_remains while_writing.body (labels_of_1 while_writing) put_more (record no_rise { stores = 1 ∷ []; tiers = 1 ∷ 1 ∷ [] }) (Reply.Refused (Refusal.TierFault 2)) ≡ false)
+no_other_fault_may_come = (refl, refl)
+
+-- ---- limits
+
+abbrev pub many_creates : ℕ → List Event
+many_creates zero = []
+many_creates (suc n) = many_creates n ++ Event.Create (number_text n) (number_text n ∷ []) WriteType.MustCache 1 ∷ []
+
+-- an actor has at most 64 labels, and another actor has its own
+labels_are_limited : told_after c1 (up 1 ++ one (many_creates 64)) ((1, Event.Create (codes "z") (codes "z" ∷ []) WriteType.MustCache 1) ∷ (2, Event.Create (codes "z") (codes "z" ∷ []) WriteType.MustCache 1) ∷ []) ≡ Reply.Refused (Refusal.Limit Which.Labels) ∷ Reply.Done ∷ []
+labels_are_limited = refl
+
+-- a store or a tier that isn't configured
+names_of_devices_are_limited : told_after c1 (up 1 ++ copyin (codes "f") (codes "a" ∷ []) WriteType.MustCache 1 0 1) (one (Event.Mount (codes "m" ∷ []) 3 [] ∷ Event.Shift (codes "m") 1 (codes "a" ∷ []) 0 2 ∷ Event.Start 3 ∷ [])) ≡ Reply.Refused (Refusal.Limit Which.Store) ∷ Reply.Refused (Refusal.Limit Which.Tier) ∷ Reply.Refused (Refusal.NoWorker 3) ∷ []
+names_of_devices_are_limited = refl
