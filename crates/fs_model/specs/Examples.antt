@@ -24,8 +24,8 @@ use Rattle.fs_model.specs.Mirror.{settled_objects, bytes_at, Side}
 use Rattle.fs_model.specs.NodesEvents.{Object, restart_outcome}
 use Rattle.fs_model.specs.Machine.{replies, final, refusal, hands_of}
 
-abbrev pub c1 : Setup
-c1 = record { block = 4; patience = 3; area = 1073741824; root = []; stores = 2; tiers = (8 ∷ 8 ∷ []) ∷ (8 ∷ []) ∷ [] }
+abbrev pub two_workers : Setup
+two_workers = record { block = 4; patience = 3; area = 1073741824; root = []; stores = 2; tiers = (8 ∷ 8 ∷ []) ∷ (8 ∷ []) ∷ [] }
 
 abbrev pub Script : Type 0
 Script = List (ℕ × Event)
@@ -52,7 +52,7 @@ told_after S before script = replies S (final S (fresh S) before) script
 abbrev pub no_events : Script
 no_events = []
 
-names_are_made_and_shown : told_after c1 no_events (one (
+names_are_made_and_shown : told_after two_workers no_events (one (
     Event.Mkdir (codes "a" ∷ [])
     ∷ Event.Mkdir (codes "a" ∷ [])
     ∷ Event.Mkdir (codes "x" ∷ codes "y" ∷ [])
@@ -68,7 +68,7 @@ names_are_made_and_shown : told_after c1 no_events (one (
 names_are_made_and_shown = refl
 
 -- an empty file
-an_empty_file_ends_at_once : told_after c1 (up 1) (one (
+an_empty_file_ends_at_once : told_after two_workers (up 1) (one (
     Event.Create (codes "f") (codes "e" ∷ []) WriteType.MustCache 1
     ∷ Event.Finish (codes "f")
     ∷ Event.OpenFile (codes "r") (codes "e" ∷ []) ReadType.NoCache 0
@@ -86,7 +86,7 @@ an_empty_file_ends_at_once : told_after c1 (up 1) (one (
 an_empty_file_ends_at_once = refl
 
 -- two blocks, read back
-two_blocks_are_read_back : told_after c1 (up 1 ++ copyin (codes "f") (codes "t" ∷ []) WriteType.MustCache 1 0 2) (one (
+two_blocks_are_read_back : told_after two_workers (up 1 ++ copyin (codes "f") (codes "t" ∷ []) WriteType.MustCache 1 0 2) (one (
     Event.OpenFile (codes "r") (codes "t" ∷ []) ReadType.NoCache 0
     ∷ Event.Poll (codes "r") 65536
     ∷ Event.Next (codes "r")
@@ -110,7 +110,7 @@ two_blocks_are_read_back : told_after c1 (up 1 ++ copyin (codes "f") (codes "t" 
 two_blocks_are_read_back = refl
 
 -- a file that isn't done can't be opened
-an_unfinished_file_is_not_opened : told_after c1 (up 1) (one (
+an_unfinished_file_is_not_opened : told_after two_workers (up 1) (one (
     Event.Create (codes "f") (codes "a" ∷ []) WriteType.MustCache 1
     ∷ Event.OpenFile (codes "r") (codes "a" ∷ []) ReadType.Cache 1
     ∷ Event.Finish (codes "f")
@@ -127,7 +127,7 @@ an_unfinished_file_is_not_opened : told_after c1 (up 1) (one (
     ∷ []
 an_unfinished_file_is_not_opened = refl
 
-directories_are_renamed_and_removed : told_after c1 (one (Event.Mkdir (codes "a" ∷ []) ∷ Event.Mkdir (codes "ab" ∷ []) ∷ [])) (one (
+directories_are_renamed_and_removed : told_after two_workers (one (Event.Mkdir (codes "a" ∷ []) ∷ Event.Mkdir (codes "ab" ∷ []) ∷ [])) (one (
     Event.Rename (codes "a" ∷ []) (codes "a" ∷ codes "b" ∷ [])
     ∷ Event.Rename (codes "a" ∷ []) (codes "a" ∷ [])
     ∷ Event.Remove [] true
@@ -162,7 +162,7 @@ settle_a = one (
     ∷ Event.Sweep 2
     ∷ [])
 
-a_persisted_block_makes_room : told_after c1 (up 2 ++ copyin (codes "a") (codes "a" ∷ []) WriteType.MustCache 2 0 1 ++ copyin (codes "b") (codes "b" ∷ []) WriteType.MustCache 2 1 1) (one (
+a_persisted_block_makes_room : told_after two_workers (up 2 ++ copyin (codes "a") (codes "a" ∷ []) WriteType.MustCache 2 0 1 ++ copyin (codes "b") (codes "b" ∷ []) WriteType.MustCache 2 1 1) (one (
     Event.Create (codes "c") (codes "c" ∷ []) WriteType.MustCache 2
     ∷ Event.Put (codes "c") (Fill.Listed (170 ∷ []))
     ∷ Event.Room (codes "c")
@@ -216,7 +216,7 @@ a_move_beside_a_reader =
     ∷ (1, Event.Where (codes "a" ∷ []))
     ∷ []
 
-a_move_waits_for_the_other_holder : told_after c1 one_kept_block a_move_beside_a_reader ≡
+a_move_waits_for_the_other_holder : told_after two_workers one_kept_block a_move_beside_a_reader ≡
     Reply.Opened 4
     ∷ Reply.FromWorker 1 0
     ∷ Reply.Given (0 ∷ 1 ∷ [])
@@ -233,7 +233,7 @@ a_move_waits_for_the_other_holder : told_after c1 one_kept_block a_move_beside_a
 a_move_waits_for_the_other_holder = refl
 
 -- a stream goes on in the file that it opened, whatever stands at its path later
-a_stream_stays_with_its_file : told_after c1 (up 1 ++ up 2 ++ copyin (codes "f") (codes "a" ∷ []) WriteType.MustCache 1 0 2) ((one (
+a_stream_stays_with_its_file : told_after two_workers (up 1 ++ up 2 ++ copyin (codes "f") (codes "a" ∷ []) WriteType.MustCache 1 0 2) ((one (
     Event.OpenFile (codes "r") (codes "a" ∷ []) ReadType.NoCache 0
     ∷ Event.Next (codes "r")
     ∷ Event.Poll (codes "r") 2
@@ -259,7 +259,7 @@ a_stream_stays_with_its_file : told_after c1 (up 1 ++ up 2 ++ copyin (codes "f")
 a_stream_stays_with_its_file = refl
 
 -- the moved copy of the example above is promoted by a stream of worker 1
-a_moved_block_is_promoted : told_after c1 (one_kept_block ++ a_move_beside_a_reader) (one (
+a_moved_block_is_promoted : told_after two_workers (one_kept_block ++ a_move_beside_a_reader) (one (
     Event.OpenFile (codes "r") (codes "a" ∷ []) ReadType.CachePromote 1
     ∷ Event.Poll (codes "r") 65536
     ∷ Event.Next (codes "r")
@@ -279,7 +279,7 @@ a_moved_block_is_promoted : told_after c1 (one_kept_block ++ a_move_beside_a_rea
 a_moved_block_is_promoted = refl
 
 -- a writer that finds no room writes through
-a_writer_without_room_writes_through : told_after c1 (up 2 ++ copyin (codes "a") (codes "a" ∷ []) WriteType.MustCache 2 0 1 ++ copyin (codes "b") (codes "b" ∷ []) WriteType.MustCache 2 1 1) (one (
+a_writer_without_room_writes_through : told_after two_workers (up 2 ++ copyin (codes "a") (codes "a" ∷ []) WriteType.MustCache 2 0 1 ++ copyin (codes "b") (codes "b" ∷ []) WriteType.MustCache 2 1 1) (one (
     Event.Create (codes "c") (codes "c" ∷ []) WriteType.CacheThrough 2
     ∷ Event.Room (codes "c")
     ∷ Event.Put (codes "c") (Fill.Made 3 0 4)
@@ -304,7 +304,7 @@ a_writer_without_room_writes_through : told_after c1 (up 2 ++ copyin (codes "a")
     ∷ []
 a_writer_without_room_writes_through = refl
 
-an_asynchronous_file_is_persisted_by_a_job : told_after c1 (up 1 ++ copyin (codes "f") (codes "a" ∷ []) WriteType.AsyncThrough 1 0 1) (one (
+an_asynchronous_file_is_persisted_by_a_job : told_after two_workers (up 1 ++ copyin (codes "f") (codes "a" ∷ []) WriteType.AsyncThrough 1 0 1) (one (
     Event.Stat (codes "a" ∷ [])
     ∷ Event.Free (codes "a" ∷ [])
     ∷ Event.Wanted
@@ -339,7 +339,7 @@ an_asynchronous_file_is_persisted_by_a_job : told_after c1 (up 1 ++ copyin (code
     ∷ []
 an_asynchronous_file_is_persisted_by_a_job = refl
 
-a_mount_survives_checkpoint_and_restart : told_after c1 no_events (one (
+a_mount_survives_checkpoint_and_restart : told_after two_workers no_events (one (
     Event.Mkdir (codes "a" ∷ [])
     ∷ Event.Mount (codes "a" ∷ codes "m" ∷ []) 2 []
     ∷ Event.Pump 1
@@ -377,7 +377,7 @@ a_publishing = one (
     ∷ Event.Poll (codes "r") 9
     ∷ [])
 
-a_finished_file_is_published : told_after c1 no_events a_publishing ≡
+a_finished_file_is_published : told_after two_workers no_events a_publishing ≡
     Reply.Done
     ∷ Reply.NeedsRoom
     ∷ Reply.Done
@@ -392,7 +392,7 @@ a_finished_file_is_published : told_after c1 no_events a_publishing ≡
     ∷ []
 a_finished_file_is_published = refl
 
-a_removed_file_leaves_its_store : told_after c1 a_publishing (one (
+a_removed_file_leaves_its_store : told_after two_workers a_publishing (one (
     Event.Close (codes "r")
     ∷ Event.Remove (codes "a" ∷ []) false
     ∷ Event.Mkdir (codes "a" ∷ [])
@@ -411,7 +411,7 @@ a_removed_file_leaves_its_store : told_after c1 a_publishing (one (
     ∷ []
 a_removed_file_leaves_its_store = refl
 
-persisted_blocks_give_way_after_a_beat : told_after c1 (up 2 ++ copyin (codes "a") (codes "a" ∷ []) WriteType.CacheThrough 2 0 1 ++ one (Event.Pump 1 ∷ Event.Pump 1 ∷ []) ++ copyin (codes "b") (codes "b" ∷ []) WriteType.CacheThrough 2 1 1 ++ one (Event.Pump 2 ∷ Event.Pump 2 ∷ [])) (one (
+persisted_blocks_give_way_after_a_beat : told_after two_workers (up 2 ++ copyin (codes "a") (codes "a" ∷ []) WriteType.CacheThrough 2 0 1 ++ one (Event.Pump 1 ∷ Event.Pump 1 ∷ []) ++ copyin (codes "b") (codes "b" ∷ []) WriteType.CacheThrough 2 1 1 ++ one (Event.Pump 2 ∷ Event.Pump 2 ∷ [])) (one (
     Event.Create (codes "c") (codes "c" ∷ []) WriteType.MustCache 2
     ∷ Event.Room (codes "c")
     ∷ Event.Beat 2
@@ -433,7 +433,7 @@ persisted_blocks_give_way_after_a_beat : told_after c1 (up 2 ++ copyin (codes "a
 persisted_blocks_give_way_after_a_beat = refl
 
 -- an unpersisted block is lost with its worker
-unpersisted_blocks_are_lost_with_their_worker : told_after c1 (up 1 ++ copyin (codes "f") (codes "m" ∷ []) WriteType.MustCache 1 0 1 ++ copyin (codes "f") (codes "c" ∷ []) WriteType.CacheThrough 1 1 1 ++ one (Event.Pump 1 ∷ Event.Pump 1 ∷ [])) (one (
+unpersisted_blocks_are_lost_with_their_worker : told_after two_workers (up 1 ++ copyin (codes "f") (codes "m" ∷ []) WriteType.MustCache 1 0 1 ++ copyin (codes "f") (codes "c" ∷ []) WriteType.CacheThrough 1 1 1 ++ one (Event.Pump 1 ∷ Event.Pump 1 ∷ [])) (one (
     Event.Kill 1
     ∷ Event.OpenFile (codes "r") (codes "m" ∷ []) ReadType.NoCache 0
     ∷ Event.Next (codes "r")
@@ -453,7 +453,7 @@ unpersisted_blocks_are_lost_with_their_worker : told_after c1 (up 1 ++ copyin (c
 unpersisted_blocks_are_lost_with_their_worker = refl
 
 -- safe mode after a restart
-unpersisted_blocks_wait_for_awaited_workers : told_after c1 (up 1 ++ up 2 ++ copyin (codes "f") (codes "u" ∷ []) WriteType.MustCache 2 0 1 ++ copyin (codes "f") (codes "p" ∷ []) WriteType.Through 0 1 1 ++ one (Event.Pump 1 ∷ Event.Pump 1 ∷ [])) (one (
+unpersisted_blocks_wait_for_awaited_workers : told_after two_workers (up 1 ++ up 2 ++ copyin (codes "f") (codes "u" ∷ []) WriteType.MustCache 2 0 1 ++ copyin (codes "f") (codes "p" ∷ []) WriteType.Through 0 1 1 ++ one (Event.Pump 1 ∷ Event.Pump 1 ∷ [])) (one (
     Event.Restart
     ∷ Event.Register 1
     ∷ Event.OpenFile (codes "r") (codes "u" ∷ []) ReadType.NoCache 0
@@ -482,7 +482,7 @@ unpersisted_blocks_wait_for_awaited_workers : told_after c1 (up 1 ++ up 2 ++ cop
     ∷ []
 unpersisted_blocks_wait_for_awaited_workers = refl
 
-pinned_blocks_are_not_freed : told_after c1 (up 2 ++ copyin (codes "f") (codes "p" ∷ []) WriteType.CacheThrough 2 0 1 ++ one (Event.Pump 1 ∷ Event.Pump 1 ∷ [])) (one (
+pinned_blocks_are_not_freed : told_after two_workers (up 2 ++ copyin (codes "f") (codes "p" ∷ []) WriteType.CacheThrough 2 0 1 ++ one (Event.Pump 1 ∷ Event.Pump 1 ∷ [])) (one (
     Event.Pin (codes "p" ∷ []) true
     ∷ Event.Free (codes "p" ∷ [])
     ∷ Event.Pin (codes "p" ∷ []) false
@@ -503,24 +503,24 @@ pinned_blocks_are_not_freed : told_after c1 (up 2 ++ copyin (codes "f") (codes "
     ∷ []
 pinned_blocks_are_not_freed = refl
 
-abbrev pub c1_small : Setup
-c1_small = record c1 { area = 64 }
+abbrev pub small_area : Setup
+small_area = record two_workers { area = 64 }
 
-a_full_area_refuses_changes : told_after c1_small no_events (one (Event.Mkdir (codes "a" ∷ []) ∷ Event.List [] ∷ [])) ≡ Reply.Refused (Refusal.Limit Which.Area) ∷ Reply.Names [] ∷ []
+a_full_area_refuses_changes : told_after small_area no_events (one (Event.Mkdir (codes "a" ∷ []) ∷ Event.List [] ∷ [])) ≡ Reply.Refused (Refusal.Limit Which.Area) ∷ Reply.Names [] ∷ []
 a_full_area_refuses_changes = refl
 
 -- the gates of the worked bytes: 54 when fresh, 64 after a mkdir, 84 after a checkpoint
 abbrev pub gate_after : Script → ℕ
-gate_after es = (final c1 (fresh c1) es).body.master.gate
+gate_after es = (final two_workers (fresh two_workers) es).body.master.gate
 
 gates_stand_where_the_journal_has_them : (gate_after no_events ≡ 54) × (gate_after (one (Event.Mkdir (codes "a" ∷ []) ∷ [])) ≡ 64) × (gate_after (one (Event.Mkdir (codes "a" ∷ []) ∷ Event.Checkpoint ∷ [])) ≡ 84)
 gates_stand_where_the_journal_has_them = (refl, refl, refl)
 
 -- store 2 holds two objects, which a mount loads
 abbrev pub stocked : Whole
-stocked = record { body = record (fresh c1).body { stores = record { parked = []; strays = [] } ∷ record { parked = []; strays = record { key = codes "d" ∷ codes "x" ∷ []; bytes = codes "abc" } ∷ record { key = codes "d" ∷ codes "y z" ∷ []; bytes = codes "1" } ∷ [] } ∷ [] }; hands = (fresh c1).hands }
+stocked = record { body = record (fresh two_workers).body { stores = record { parked = []; strays = [] } ∷ record { parked = []; strays = record { key = codes "d" ∷ codes "x" ∷ []; bytes = codes "abc" } ∷ record { key = codes "d" ∷ codes "y z" ∷ []; bytes = codes "1" } ∷ [] } ∷ [] }; hands = (fresh two_workers).hands }
 
-a_mount_loads_its_store : replies c1 stocked (one (
+a_mount_loads_its_store : replies two_workers stocked (one (
     Event.Mount (codes "m" ∷ []) 2 (codes "d" ∷ [])
     ∷ Event.List (codes "m" ∷ [])
     ∷ Event.Pump 1
@@ -564,7 +564,7 @@ a_mount_loads_its_store : replies c1 stocked (one (
 a_mount_loads_its_store = refl
 
 abbrev pub mirror_of : Script → List (List Object)
-mirror_of es = let A = (final c1 (fresh c1) es).body in settled_objects A 1 ∷ settled_objects A 2 ∷ []
+mirror_of es = let A = (final two_workers (fresh two_workers) es).body in settled_objects A 1 ∷ settled_objects A 2 ∷ []
 
 -- the store holds the file once its publishing has ended, and nothing after the removal
 a_published_object_is_in_its_store : mirror_of a_publishing ≡ ((codes "a" ∷ [], 1 ∷ 2 ∷ []) ∷ []) ∷ [] ∷ []
@@ -574,13 +574,13 @@ a_published_object_is_in_its_store = refl
 
 -- `mkdir /y`, `fuse 3`, and a `mkdir /z` whose append needs four calls
 abbrev pub before_the_stop : Whole
-before_the_stop = final c1 (fresh c1) (one (Event.Mkdir (codes "y" ∷ []) ∷ Event.Fuse 3 ∷ []))
+before_the_stop = final two_workers (fresh two_workers) (one (Event.Mkdir (codes "y" ∷ []) ∷ Event.Fuse 3 ∷ []))
 
 abbrev pub make_z : Event
 make_z = Event.Mkdir (codes "z" ∷ [])
 
 abbrev pub stopped_body : State
-stopped_body = stopped_with (doubt_of c1 before_the_stop.body [] make_z) (Some 0) before_the_stop.body
+stopped_body = stopped_with (doubt_of two_workers before_the_stop.body [] make_z) (Some 0) before_the_stop.body
 
 abbrev pub any_remains : Remains
 any_remains = record { begun = false; fate = BlockFate.IsGone; keeps_room = true; parks = true; acted = false; breaks = false }
@@ -589,7 +589,7 @@ abbrev pub no_rise : Rise
 no_rise = record { stores = []; tiers = []; journal = 0; waits = 0 }
 
 -- a fuse that is too short stops the master, though no count rose
-a_short_fuse_stops_the_master : Step c1 before_the_stop.body 1 [] make_z (Reply.Refused Refusal.JournalFault) stopped_body [] no_rise None
+a_short_fuse_stops_the_master : Step two_workers before_the_stop.body 1 [] make_z (Reply.Refused Refusal.JournalFault) stopped_body [] no_rise None
 a_short_fuse_stops_the_master = Step.Stops any_remains (Some 0) refl refl refl refl refl refl refl refl refl refl
 
 abbrev pub names_after_restart : Bool → List Name
@@ -603,7 +603,7 @@ a_change_in_doubt_is_there_or_not = (refl, refl)
 
 -- `/d/a` is published and `/d` renamed to `/e`, with the object's move still to do
 abbrev pub a_rename_under_way : State
-a_rename_under_way = (final c1 (fresh c1) (one (
+a_rename_under_way = (final two_workers (fresh two_workers) (one (
     Event.Mkdir (codes "d" ∷ [])
     ∷ Event.Create (codes "f") (codes "d" ∷ codes "a" ∷ []) WriteType.Through 0
     ∷ Event.Room (codes "f")
@@ -625,7 +625,7 @@ an_object_is_at_one_of_two_keys = (refl, refl, refl, refl)
 
 -- a file of one byte more in an open block
 abbrev pub while_writing : Whole
-while_writing = final c1 (fresh c1) (up 1 ++ one (Event.Create (codes "f") (codes "a" ∷ []) WriteType.MustCache 1 ∷ Event.Room (codes "f") ∷ Event.Put (codes "f") (Fill.Listed (7 ∷ [])) ∷ []))
+while_writing = final two_workers (fresh two_workers) (up 1 ++ one (Event.Create (codes "f") (codes "a" ∷ []) WriteType.MustCache 1 ∷ Event.Room (codes "f") ∷ Event.Put (codes "f") (Fill.Listed (7 ∷ [])) ∷ []))
 
 abbrev pub put_more : Event
 put_more = Event.Put (codes "f") (Fill.Listed (8 ∷ []))
@@ -637,15 +637,15 @@ abbrev pub labels_of_1 : Whole → Hands
 labels_of_1 W = hands_of W 1
 
 -- a fault of the tier breaks the label
-a_failed_put_breaks_its_label : Step c1 while_writing.body 1 (labels_of_1 while_writing) put_more (Reply.Refused (Refusal.TierFault 1)) while_writing.body (after_fault c1 any_remains while_writing.body 1 (labels_of_1 while_writing) put_more).1 tier_1_rose None
+a_failed_put_breaks_its_label : Step two_workers while_writing.body 1 (labels_of_1 while_writing) put_more (Reply.Refused (Refusal.TierFault 1)) while_writing.body (after_fault two_workers any_remains while_writing.body 1 (labels_of_1 while_writing) put_more).1 tier_1_rose None
 a_failed_put_breaks_its_label = Step.Failed any_remains refl refl refl refl
 
 -- and then only `close` takes the label
-a_broken_label_can_only_be_closed : (refusal c1 while_writing.body (after_fault c1 any_remains while_writing.body 1 (labels_of_1 while_writing) put_more).1 (Event.Finish (codes "f")) ≡ Some (Reply.Refused Refusal.BadLabel)) × (refusal c1 while_writing.body (after_fault c1 any_remains while_writing.body 1 (labels_of_1 while_writing) put_more).1 (Event.Close (codes "f")) ≡ None)
+a_broken_label_can_only_be_closed : (refusal two_workers while_writing.body (after_fault two_workers any_remains while_writing.body 1 (labels_of_1 while_writing) put_more).1 (Event.Finish (codes "f")) ≡ Some (Reply.Refused Refusal.BadLabel)) × (refusal two_workers while_writing.body (after_fault two_workers any_remains while_writing.body 1 (labels_of_1 while_writing) put_more).1 (Event.Close (codes "f")) ≡ None)
 a_broken_label_can_only_be_closed = (refl, refl)
 
 -- no other device may be named: the store isn't called by this Put, and worker 2 neither
-no_other_fault_may_come : (may_fail c1 any_remains while_writing.body (labels_of_1 while_writing) put_more (record no_rise { stores = 1 ∷ []; tiers = 1 ∷ 1 ∷ [] }) (Reply.Refused (Refusal.UnderFault 1)) ≡ false) × (may_fail c1 any_remains while_writing.body (labels_of_1 while_writing) put_more (record no_rise { stores = 1 ∷ []; tiers = 1 ∷ 1 ∷ [] }) (Reply.Refused (Refusal.TierFault 2)) ≡ false)
+no_other_fault_may_come : (may_fail two_workers any_remains while_writing.body (labels_of_1 while_writing) put_more (record no_rise { stores = 1 ∷ []; tiers = 1 ∷ 1 ∷ [] }) (Reply.Refused (Refusal.UnderFault 1)) ≡ false) × (may_fail two_workers any_remains while_writing.body (labels_of_1 while_writing) put_more (record no_rise { stores = 1 ∷ []; tiers = 1 ∷ 1 ∷ [] }) (Reply.Refused (Refusal.TierFault 2)) ≡ false)
 no_other_fault_may_come = (refl, refl)
 
 -- ---- limits
@@ -655,9 +655,9 @@ many_creates zero = []
 many_creates (suc n) = many_creates n ++ Event.Create (number_text n) (number_text n ∷ []) WriteType.MustCache 1 ∷ []
 
 -- an actor has at most 64 labels, and another actor has its own
-labels_are_limited : told_after c1 (up 1 ++ one (many_creates 64)) ((1, Event.Create (codes "z") (codes "z" ∷ []) WriteType.MustCache 1) ∷ (2, Event.Create (codes "z") (codes "z" ∷ []) WriteType.MustCache 1) ∷ []) ≡ Reply.Refused (Refusal.Limit Which.Labels) ∷ Reply.Done ∷ []
+labels_are_limited : told_after two_workers (up 1 ++ one (many_creates 64)) ((1, Event.Create (codes "z") (codes "z" ∷ []) WriteType.MustCache 1) ∷ (2, Event.Create (codes "z") (codes "z" ∷ []) WriteType.MustCache 1) ∷ []) ≡ Reply.Refused (Refusal.Limit Which.Labels) ∷ Reply.Done ∷ []
 labels_are_limited = refl
 
 -- a store or a tier that isn't configured
-names_of_devices_are_limited : told_after c1 (up 1 ++ copyin (codes "f") (codes "a" ∷ []) WriteType.MustCache 1 0 1) (one (Event.Mount (codes "m" ∷ []) 3 [] ∷ Event.Shift (codes "m") 1 (codes "a" ∷ []) 0 2 ∷ Event.Start 3 ∷ [])) ≡ Reply.Refused (Refusal.Limit Which.Store) ∷ Reply.Refused (Refusal.Limit Which.Tier) ∷ Reply.Refused (Refusal.NoWorker 3) ∷ []
+names_of_devices_are_limited : told_after two_workers (up 1 ++ copyin (codes "f") (codes "a" ∷ []) WriteType.MustCache 1 0 1) (one (Event.Mount (codes "m" ∷ []) 3 [] ∷ Event.Shift (codes "m") 1 (codes "a" ∷ []) 0 2 ∷ Event.Start 3 ∷ [])) ≡ Reply.Refused (Refusal.Limit Which.Store) ∷ Reply.Refused (Refusal.Limit Which.Tier) ∷ Reply.Refused (Refusal.NoWorker 3) ∷ []
 names_of_devices_are_limited = refl
