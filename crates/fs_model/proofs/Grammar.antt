@@ -1,12 +1,12 @@
 -- A text spells a path exactly where it is the text of that path.
-use Rattle.std.proofs.Common.{◌≡◌, ℕ, ◌+◌, ◌<◌, ◌≤◌, Bool, true, false, not, cond, ◌&&◌, List, [], ◌∷◌, ◌++◌, length, Result, Ok, Err, refl, sym, ap, ◌∙◌, subst, arith, eqb, nat_lt, nat_le, le-ltb, ◌==◌}
+use Rattle.std.proofs.Common.{◌≡◌, ℕ, ◌+◌, ◌≤◌, Bool, true, false, not, cond, ◌&&◌, List, [], ◌∷◌, ◌++◌, length, Result, Ok, Err, refl, sym, ap, ◌∙◌, subst, arith, eqb, nat_lt, nat_le, le-ltb, ◌==◌}
 use Rattle.std.proofs.lemmas.Bool.{eqb-true, ltb-false, leb-true, le-leb}
 use Rattle.std.proofs.lemmas.List.{append-nil}
 use Rattle.std.proofs.lemmas.List.Splits.{slice_split_none, slice_split_at, join_with_byte-slice_split, length-slice_split}
 use Rattle.std.proofs.lemmas.List.Elements.{All-from_recursion}
-use Rattle.std.specs.List.{All, AllByRecursion, list_all, join_with_byte, slice_split}
+use Rattle.std.specs.List.{All, AllByRecursion, list_all, join_with_byte}
 use Rattle.fs_model.specs.declared.path.PathFault.{PathFault}
-use Rattle.fs_model.specs.declared.path.PathFault.TheVariants.{TooLong, BadName, Memory}
+use Rattle.fs_model.specs.declared.path.PathFault.TheVariants.{TooLong, BadName}
 use Rattle.fs_model.specs.PathForm.{is_name, is_name_byte, names_text, path_text, is_path}
 use Rattle.fs_model.specs.PathText.{names_of, onto, parts_at, spelled, read_path}
 
@@ -86,7 +86,7 @@ spelled_again ((b ∷ bs) ∷ ns) h =
     ap (names_of 0) (parts_again (b ∷ bs) ns (first_true (is_name (b ∷ bs)) (list_all is_name ns) h) (second_true (is_name (b ∷ bs)) (list_all is_name ns) h))
     ∙ names_again 0 ((b ∷ bs) ∷ ns) h
 
-is_short : (ns : List (List ℕ)) → is_path ns ≡ true → length (path_text ns) ≤ 4096
+pub is_short : (ns : List (List ℕ)) → is_path ns ≡ true → length (path_text ns) ≤ 4096
 is_short ns p = leb-true (length (path_text ns)) 4096 (second_true _ _ p)
 
 short_enough : (n : ℕ) → n ≤ 4096 → nat_lt 4096 n ≡ false

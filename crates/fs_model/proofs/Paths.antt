@@ -1,9 +1,9 @@
 -- Reading names one after the other, as a loop does.
-use Rattle.std.proofs.Common.{◌≡◌, ℕ, ◌+◌, ◌<◌, ◌≤◌, Bool, true, false, cond, List, [], ◌∷◌, ◌++◌, length, drop, map, get_or, Result, Ok, Err, refl, sym, ap, ◌∙◌, append_assoc, arith}
-use Rattle.std.proofs.lemmas.List.{append-nil, drop_more, drop_all, get_or-map, length-map}
+use Rattle.std.proofs.Common.{◌≡◌, ℕ, ◌+◌, ◌<◌, ◌≤◌, true, false, List, [], ◌∷◌, ◌++◌, length, drop, get_or, Result, Ok, Err, refl, sym, ap, ◌∙◌, append_assoc}
+use Rattle.std.proofs.lemmas.List.{append-nil, drop_more, drop_all}
 use Rattle.std.specs.Borrow.{Bor}
 use Rattle.fs_model.specs.declared.path.PathFault.{PathFault}
-use Rattle.fs_model.specs.declared.path.PathFault.TheVariants.{TooLong, BadName, Memory}
+use Rattle.fs_model.specs.declared.path.PathFault.TheVariants.{BadName}
 use Rattle.fs_model.specs.PathForm.{is_name}
 use Rattle.fs_model.specs.PathText.{onto, names_of, slices}
 

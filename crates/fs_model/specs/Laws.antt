@@ -1,5 +1,5 @@
 -- Laws above the definitions of the machine.
-use Rattle.std.specs.Prelude.{◌≡◌, ◌≢◌, ℕ, pred, ◌≤◌, Bool, true, false, IsTrue, List, length, Option, None, Some}
+use Rattle.std.specs.Prelude.{◌≡◌, ◌≢◌, ℕ, pred, ◌≤◌, ◌<◌, ◌^◌, Bool, true, false, IsTrue, List, length, Option, None, Some}
 use Rattle.std.specs.Fmt.{decimal}
 use Rattle.fs_model.specs.declared.setup.Setup.{Setup}
 use Rattle.fs_model.specs.declared.event.Event.{Event}
@@ -85,9 +85,9 @@ RefusedLeavesNames = (S : Setup) (A B : State) (who : ℕ) (H G : Hands) (e : Ev
 
 -- ---- texts
 
--- the text of a number in a key is its decimal one
+-- the text of a number in a key is its decimal one; std's word has 64 digits at most
 abbrev pub NumberTextIsDecimal : Type 0
-NumberTextIsDecimal = (n : ℕ) → number_text n ≡ decimal n
+NumberTextIsDecimal = (n : ℕ) → n < 10 ^ 64 → number_text n ≡ decimal n
 
 -- the lengths that the journal counts are those of the texts
 abbrev pub PathLengthIsOfText : Type 0

@@ -1,4 +1,5 @@
 pub mod PathForm
+pub mod PathLength
 pub mod PathText
 pub mod Equal
 pub mod Words

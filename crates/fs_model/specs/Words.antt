@@ -4,6 +4,7 @@ use Rattle.std.specs.Cmp.Lexicographic.{slice_cmp}
 use Rattle.std.specs.Ordering.{is_lt, nat_cmp}
 use Rattle.std.specs.declared.cmp.Ordering.{Ordering}
 use Rattle.std.specs.Str.{bytes_eq}
+pub use Rattle.fs_model.specs.PathLength.{path_bytes, path_len}
 use Rattle.fs_model.specs.declared.path.Path.{Path}
 use Rattle.fs_model.specs.declared.name.Name.{Name}
 
@@ -71,16 +72,6 @@ update_where test change xs = map (λ x. cond (test x) (change x) x) xs
 
 abbrev pub update_at : {X : Type 0} → ℕ → X → (X → X) → List X → List X
 update_at i d change xs = set xs i (change (get_or xs i d))
-
--- the bytes of a text, in a path: the lengths of its names and a slash before each
-abbrev pub path_bytes : Path → ℕ
-path_bytes [] = 0
-path_bytes (x ∷ xs) = suc (length x) + path_bytes xs
-
--- the length of a path's text, of which the root has 1
-abbrev pub path_len : Path → ℕ
-path_len [] = 1
-path_len (x ∷ xs) = path_bytes (x ∷ xs)
 
 -- a file of len bytes has so many blocks of bs bytes, the last perhaps shorter
 abbrev pub block_count : ℕ → ℕ → ℕ

@@ -7,6 +7,7 @@ pub mod cut;
 pub mod event;
 pub mod items;
 pub mod label;
+pub mod laws;
 pub mod name;
 pub mod numbers;
 pub mod path;
@@ -14,3 +15,5 @@ pub mod prefix;
 pub mod reply;
 pub mod setup;
 pub mod stop;
+#[cfg(test)]
+mod tests;

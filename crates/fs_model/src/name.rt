@@ -1,7 +1,8 @@
 //! A name: what stands between two slashes of a path.
 
-ghost use Rattle.std.specs.Prelude.{◌≡◌, true, false, IfOk, MatchOption, nat_eq, refl, Some};
+ghost use Rattle.std.specs.Prelude.{◌≡◌, ◌<◌, ◌^◌, true, false, IfOk, MatchOption, nat_eq, refl, Some};
 ghost use Rattle.fs_model.specs.PathForm.{is_name, is_name_byte, is_kept_name};
+ghost use Rattle.fs_model.specs.PathLength.{path_bytes};
 ghost use Rattle.std.specs.List.{list_all};
 ghost use Rattle.std.specs.Str.{is_utf8};
 ghost use Rattle.std.specs.Ordering.{nat_cmp};
@@ -66,6 +67,18 @@ pub fn is_name(bytes: &[u8]) -> bool
         return false;
     }
     !is_kept(bytes)
+}
+
+/// The length of the text of these names, each behind a slash.
+pub fn names_len(names: &[Name]) -> u64
+    requires { path_bytes names.now < 2 ^ 64 }
+    ensures { result ≡ path_bytes names.now }
+{
+    let mut len = 0;
+    for name in names {
+        len += 1 + name.as_bytes().len() as u64;
+    }
+    len
 }
 
 impl Name {

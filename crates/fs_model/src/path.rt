@@ -1,8 +1,9 @@
 //! Paths of the tree of names.
 
-ghost use Rattle.std.specs.Prelude.{◌≡◌, true, ◌<◌, ◌^◌, IfOk, List, ℕ, Ok, length, map, nat_eq, Some, refl, []};
+ghost use Rattle.std.specs.Prelude.{◌≡◌, true, ◌<◌, ◌≤◌, ◌^◌, IfOk, List, ℕ, Ok, length, map, nat_eq, Some, refl, []};
 ghost use Rattle.fs_model.specs.PathForm.{is_path, path_text};
 ghost use Rattle.fs_model.specs.PathText.{names_of, slices, read_path, Gives};
+ghost use Rattle.fs_model.specs.PathLength.{path_len};
 ghost use Rattle.fs_model.specs.Words.{under};
 ghost use Rattle.std.specs.Ordering.{nat_cmp};
 ghost use Rattle.std.specs.Cmp.Lexicographic.{pointwise, slice_cmp};
@@ -10,7 +11,7 @@ ghost use Rattle.std.specs.Cmp.{partial_equiv_from_equiv};
 ghost use Rattle.fs_model.specs.Equal.{names_eq_equiv, names_cmp_total, names_ties, names_po};
 
 use crate::cut::cut;
-use crate::name::Name;
+use crate::name::{Name, names_len};
 use std::alloc::{AllocError, AllocFailed, Global};
 use std::cmp::Ordering;
 use std::marker::Model;
@@ -147,6 +148,18 @@ impl Path {
         ensures path { is_path self.now ≡ true }
     {
         self.names.as_slice()
+    }
+
+    /// The length of the path's text in bytes, at most 4,096.
+    pub fn text_len(&self) -> u64
+        ensures len { result ≡ path_len self.now }
+        ensures short { result ≤ 4096 }
+    {
+        let names = self.as_slice();
+        if names.is_empty() {
+            return 1;
+        }
+        names_len(names)
     }
 
     /// Whether this path is under another one, equal allowed: its names begin with the other's.

@@ -1,6 +1,4 @@
-use Rattle.std.proofs.Common.{◌<◌, length, ap, ◌∙◌, sym, arith, drop}
-use Rattle.std.proofs.lemmas.List.{drop_all}
-use Rattle.fs_model.specs.PathText.{names_of}
+use Rattle.std.proofs.Common.{arith}
 use Rattle.fs_model.proofs.Paths.{goes_on, stops, is_done}
 use Rattle.fs_model.proofs.path.names_of.Goals as goal
 

@@ -1,6 +1,6 @@
 use Rattle.std.proofs.Common.{subst, ap, sym, ◌∙◌}
 use Rattle.std.proofs.lemmas.Result.{err_from_is_err_and}
-use Rattle.fs_model.specs.PathText.{Gives, Fails, read_path}
+use Rattle.fs_model.specs.PathText.{Fails, read_path}
 use Rattle.fs_model.proofs.Grammar.{read_again, read_found}
 use Rattle.fs_model.proofs.path.Path.read.Goals as goal
 

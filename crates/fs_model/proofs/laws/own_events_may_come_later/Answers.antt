@@ -1,0 +1,5 @@
+use Rattle.fs_model.proofs.Commute.{own_may_come_later}
+use Rattle.fs_model.proofs.laws.own_events_may_come_later.Goals as goal
+
+pub returns : goal.returns
+returns c = own_may_come_later
