@@ -1,0 +1,5 @@
+pub mod Rising
+pub mod PathOrder
+pub mod Walks
+pub mod Ranges
+pub mod Places

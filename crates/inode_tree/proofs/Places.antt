@@ -1,0 +1,48 @@
+-- What stands at the place of a path.
+use Rattle.std.proofs.Common.{◌≡◌, ℕ, ◌+◌, ◌<◌, ◌≤◌, true, false, List, ◌∷◌, length, drop, get_or, Some, None, nat_eq, refl, sym, ap, ◌∙◌, subst, arith}
+use Rattle.std.specs.List.{AllWithin, insert}
+use Rattle.std.specs.Cmp.Lexicographic.{pointwise}
+use Rattle.std.proofs.lemmas.List.{drop_more}
+use Rattle.fs_model.specs.declared.path.Path.{Path}
+use Rattle.fs_model.specs.Equal.{names_cmp_total, names_ties}
+use Rattle.fs_model.specs.Words.{path_lt}
+use Rattle.fs_model.specs.State.{Node, NodeRow}
+use Rattle.fs_model.specs.Lookups.{find_node}
+use Rattle.fs_model.specs.Changes.{put_node}
+use Rattle.inode_tree.specs.declared.entry.Entry.{Entry}
+use Rattle.inode_tree.specs.Entries.{node_in, node_row, node_rows, in_order}
+use Rattle.inode_tree.proofs.Rising.{find_here, find_other, put_here, is_sorted-put_here}
+
+module _ (es : List Entry) (p : Path) (i : ℕ) (e : Entry) (within : i < length es) (is : e ≡ get_or es i e) (before : AllWithin (λ x. path_lt x.path p ≡ true) es 0 i) where
+  rest : drop i es ≡ e ∷ drop (i + 1) es
+  rest = drop_more es i e within ∙ ap (λ x. x ∷ drop (i + 1) es) (sym is)
+
+  -- an entry whose path it is
+  pub stands : (q : Path) → q ≡ e.path → true ≡ pointwise (pointwise nat_eq) p q → Some (node_in e.inode) ≡ find_node (node_rows es) p
+  stands q read same = sym (find_here names_cmp_total node_row p es i e within rest before (sym (names_ties p e.path) ∙ ap (pointwise (pointwise nat_eq) p) (sym read) ∙ sym same))
+
+  -- the entry of another path, which comes later
+  pub is_missing : in_order es ≡ true → AllWithin (λ x. path_lt x.path p ≡ false) es i (length es) → (q : Path) → q ≡ e.path → false ≡ pointwise (pointwise nat_eq) p q → None ≡ find_node (node_rows es) p
+  is_missing ordered after q read other =
+      let later : path_lt e.path p ≡ false = ap (λ x. path_lt x.path p) is ∙ after i e (omega arith) within in
+      sym (find_other names_cmp_total node_row p es i e within rest ordered before later (sym (names_ties p e.path) ∙ ap (pointwise (pointwise nat_eq) p) (sym read) ∙ sym other))
+
+-- an entry that goes in at the place of its path: `q` is the path as it was looked for, `ds` the entries as they were read
+module _ (es ds ys : List Entry) (q : Path) (i : ℕ) (x : Entry) (read : ds ≡ es) (sought : q ≡ x.path) (within : i ≤ length ds)
+    (before : AllWithin (λ e. path_lt e.path q ≡ true) ds 0 i) (after : AllWithin (λ e. path_lt e.path q ≡ false) ds i (length ds)) (made : ys ≡ insert es i x) where
+  put_in : find_node (node_rows es) x.path ≡ None → put_node x.path (node_in x.inode) (node_rows es) ≡ node_rows (insert es i x)
+  put_in none = put_here names_cmp_total node_row x.path (node_in x.inode) es i x refl
+      (subst (λ zs. i ≤ length zs) read within)
+      (subst (λ zs. AllWithin (λ e. path_lt e.path x.path ≡ true) zs 0 i) read (subst (λ r. AllWithin (λ e. path_lt e.path r ≡ true) ds 0 i) sought before))
+      (subst (λ zs. AllWithin (λ e. path_lt e.path x.path ≡ false) zs i (length zs)) read (subst (λ r. AllWithin (λ e. path_lt e.path r ≡ false) ds i (length ds)) sought after))
+      none
+
+  pub is_put : (nodes : List NodeRow) (p : Path) (n : Node) → node_rows es ≡ nodes → x.path ≡ p → node_in x.inode ≡ n → find_node nodes p ≡ None → node_rows ys ≡ put_node p n nodes
+  is_put nodes p n view named kind none =
+      let none_there : find_node (node_rows es) x.path ≡ None = (λ j. find_node (view j) (named j)) ∙ none in
+      ap node_rows made ∙ sym (put_in none_there) ∙ (λ j. put_node (named j) (kind j) (view j))
+
+  pub stays_in_order : (nodes : List NodeRow) (p : Path) → node_rows es ≡ nodes → x.path ≡ p → find_node nodes p ≡ None → in_order es ≡ true → in_order ys ≡ true
+  stays_in_order nodes p view named none ordered =
+      let none_there : find_node (node_rows es) x.path ≡ None = (λ j. find_node (view j) (named j)) ∙ none in
+      ap in_order made ∙ is_sorted-put_here names_cmp_total node_row x.path (node_in x.inode) es i x (put_in none_there) ordered

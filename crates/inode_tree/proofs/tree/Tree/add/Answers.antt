@@ -1,0 +1,20 @@
+use Rattle.std.proofs.Common.{ap}
+use Rattle.inode_tree.proofs.Walks.{is_free}
+use Rattle.inode_tree.proofs.Places.{is_put, stays_in_order}
+use Rattle.inode_tree.proofs.tree.Tree.add.Goals as goal
+
+pub invariant_of-self-2 : goal.invariant_of-self-2
+invariant_of-self-2 c =
+    let here = c.place_of-at.ensures in
+    let none = is_free c.args.self.now.nodes c.args.path.now c.requires.absent c.requires.parent in
+    stays_in_order c.self.inside.entries.items c.deref.result.now c.insert.new.self.items c.as_slice.result.now c.place_of-at.result (record { path = c.in_ok-path.path; inode = c.of-inode.result })
+    c.deref.ensures.value c.as_slice.ensures.names here.within here.before here.after c.in_ok-insert.ensures.items
+    c.args.self.now.nodes c.args.path.now (ap (λ v. v.nodes) c.self.view_is) c.in_ok-path.ensures.cases none c.self.invariant
+
+pub returns-clause-ok : goal.returns-clause-ok
+returns-clause-ok c =
+    let here = c.place_of-at.ensures in
+    let none = is_free c.args.self.now.nodes c.args.path.now c.requires.absent c.requires.parent in
+    is_put c.self.inside.entries.items c.deref.result.now c.insert.new.self.items c.as_slice.result.now c.place_of-at.result (record { path = c.in_ok-path.path; inode = c.of-inode.result })
+    c.deref.ensures.value c.as_slice.ensures.names here.within here.before here.after c.in_ok-insert.ensures.items
+    c.args.self.now.nodes c.args.path.now _ (ap (λ v. v.nodes) c.self.view_is) c.in_ok-path.ensures.cases c.of-inode.ensures none

@@ -1,0 +1,59 @@
+-- Rows and walks in the words of the file machine.
+use Rattle.std.specs.Prelude.{ℕ, Bool, true, false, List, Option, find}
+use Rattle.fs_model.specs.declared.reply.Stored.{Stored}
+use Rattle.fs_model.specs.State.{Node, File, NodeRow}
+use Rattle.fs_model.specs.Lookups as machine
+use Rattle.fs_model.specs.Lookups.{id_is}
+use Rattle.inode_tree.specs.declared.row.Row.{Row}
+use Rattle.inode_tree.specs.declared.row.Walk.{Walk}
+
+-- a tree, as its nodes in the order of their paths
+pub record TreeView : Type 0 where
+  pub nodes : List NodeRow
+
+abbrev pub file_in_row : Row → File
+file_in_row r = record { id = r.id; len = r.len; done = r.done; stored = r.stored; pinned = r.pinned }
+
+-- a directory, or this file
+abbrev pub node_if : Bool → File → Node
+node_if true f = Node.Directory
+node_if false f = Node.IsFile f
+
+-- the machine's node of a row
+abbrev pub node_of : Row → Node
+node_of r = node_if r.dir (file_in_row r)
+
+-- the row of each directory
+abbrev pub directory_row : Row
+directory_row = record { dir = true; id = 0; len = 0; done = true; stored = Stored.No; pinned = false }
+
+-- the one row that a tree tells of a node
+abbrev pub row_of_node : Node → Row
+row_of_node Node.Directory = directory_row
+row_of_node (Node.IsFile f) = record { dir = false; id = f.id; len = f.len; done = f.done; stored = f.stored; pinned = f.pinned }
+
+-- where a walk led, as the machine says it
+abbrev pub leads_to : Walk → machine.Walk
+leads_to (Walk.Found r) = machine.Walk.Found (node_of r)
+leads_to Walk.Absent = machine.Walk.Absent
+leads_to Walk.Blocked = machine.Walk.Blocked
+
+-- P holds of the row that was found, if one was
+abbrev pub IfFound : Walk → (Row → Type 0) → Type 0
+IfFound (Walk.Found r) P = P r
+IfFound Walk.Absent P = Unit {0}
+IfFound Walk.Blocked P = Unit {0}
+
+-- P holds if a node was found
+abbrev pub OnFound : Walk → Type 0 → Type 0
+OnFound w P = IfFound w (λ r. P)
+
+-- P holds if a file was in the way
+abbrev pub OnBlocked : Walk → Type 0 → Type 0
+OnBlocked (Walk.Found r) P = Unit {0}
+OnBlocked Walk.Absent P = Unit {0}
+OnBlocked Walk.Blocked P = P
+
+-- the file with this number, with its path
+abbrev pub file_row : List NodeRow → ℕ → Option NodeRow
+file_row nodes id = find (λ (r : NodeRow). id_is id r.1) nodes

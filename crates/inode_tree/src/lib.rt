@@ -1,0 +1,8 @@
+//! The tree of names: the nodes by path, as contracts see them as the flat list of the file machine.
+#![tactic(auto)]
+
+mod entry;
+pub mod row;
+#[cfg(test)]
+mod tests;
+pub mod tree;

@@ -1,0 +1,141 @@
+//! What trees made of paths in text answer.
+
+use crate::row::{DIRECTORY, Row, Walk};
+use crate::tree::Tree;
+use fs_model::numbers::FileId;
+use fs_model::path::Path;
+use fs_model::reply::Stored;
+use std::alloc::Global;
+use std::test::Fail;
+
+/// A file with this number.
+fn file(id: u64) -> Row {
+    Row {
+        dir: false,
+        id,
+        len: 3 * (id % 10),
+        done: true,
+        stored: Stored::Wanted,
+        pinned: true,
+    }
+}
+
+/// Adds a node where the tree has a place for it, and says whether it had.
+fn add(tree: &mut Tree, alloc: Global, text: &str, row: Row) -> Result<bool, Fail> {
+    let path = Path::read(alloc, text.as_bytes())?;
+    let Walk::Found(_) = tree.walk_above(&path) else {
+        return Ok(false);
+    };
+    if tree.contains(&path) {
+        return Ok(false);
+    }
+    if tree.path_of(alloc, FileId(row.id))?.is_some() {
+        return Ok(false);
+    }
+    tree.add(alloc, &path, row)?;
+    Ok(true)
+}
+
+/// A tree of three directories below `/`, of which `/a` has a directory with a file, and a file.
+fn sample(alloc: Global) -> Result<Tree, Fail> {
+    let mut tree = Tree::new(alloc)?;
+    for text in ["/ab", "/a", "/a!", "/a/x"] {
+        add(&mut tree, alloc, text, DIRECTORY)?;
+    }
+    add(&mut tree, alloc, "/a/x/deep", file(8))?;
+    add(&mut tree, alloc, "/a/y", file(7))?;
+    Ok(tree)
+}
+
+/// The names that the tree lists, with a space between them.
+fn listed(tree: &Tree, alloc: Global, text: &str) -> Result<Vec<u8>, Fail> {
+    let path = Path::read(alloc, text.as_bytes())?;
+    let names = tree.list(alloc, &path)?;
+    let mut line = Vec::new(alloc);
+    for name in &names {
+        if !line.is_empty() {
+            line.push(b' ')?;
+        }
+        line.extend_from_slice(name.as_bytes())?;
+    }
+    Ok(line)
+}
+
+#[test]
+fn nodes_go_where_nothing_is_below_a_directory(rt: HostRuntime) -> Result<(), Fail> {
+    let mut tree = sample(rt.alloc())?;
+    assert_eq!(rt; tree.len(), 7);
+    for (text, row, added) in [
+        ("/", DIRECTORY, false),
+        ("/a", file(9), false),
+        ("/b/c", DIRECTORY, false),
+        ("/a/y/z", file(9), false),
+        ("/ab/w", file(7), false),
+        ("/ab/w", file(9), true),
+        ("/ab/w", DIRECTORY, false),
+        ("/b", DIRECTORY, true),
+        ("/b/c", DIRECTORY, true),
+    ] {
+        assert_eq!(rt; add(&mut tree, rt.alloc(), text, row)?, added, "{text}");
+    }
+    assert_eq!(rt; tree.len(), 10);
+    Ok(())
+}
+
+#[test]
+fn the_first_prefix_that_is_no_directory_decides(rt: HostRuntime) -> Result<(), Fail> {
+    let tree = sample(rt.alloc())?;
+    for (text, walk, above) in [
+        ("/", Walk::Found(DIRECTORY), Walk::Found(DIRECTORY)),
+        ("/a", Walk::Found(DIRECTORY), Walk::Found(DIRECTORY)),
+        ("/ab", Walk::Found(DIRECTORY), Walk::Found(DIRECTORY)),
+        ("/a/y", Walk::Found(file(7)), Walk::Found(DIRECTORY)),
+        ("/a/x/deep", Walk::Found(file(8)), Walk::Found(DIRECTORY)),
+        ("/a/y/z", Walk::Blocked, Walk::Blocked),
+        ("/a/y/z/q", Walk::Blocked, Walk::Blocked),
+        ("/b", Walk::Absent, Walk::Found(DIRECTORY)),
+        ("/abc", Walk::Absent, Walk::Found(DIRECTORY)),
+        ("/a/x/none", Walk::Absent, Walk::Found(DIRECTORY)),
+        ("/b/c", Walk::Absent, Walk::Absent),
+        ("/b/a/y", Walk::Absent, Walk::Absent),
+    ] {
+        let path = Path::read(rt.alloc(), text.as_bytes())?;
+        assert_eq!(rt; tree.walk(&path), walk, "{text}");
+        assert_eq!(rt; tree.walk_above(&path), above, "{text}");
+    }
+    Ok(())
+}
+
+#[test]
+fn names_right_below_are_listed_in_byte_order(rt: HostRuntime) -> Result<(), Fail> {
+    let tree = sample(rt.alloc())?;
+    for (text, names) in [
+        ("/", "a a! ab"),
+        ("/a", "x y"),
+        ("/a/x", "deep"),
+        ("/ab", ""),
+        ("/a/y", ""),
+        ("/none", ""),
+    ] {
+        assert_eq!(rt;
+            listed(&tree, rt.alloc(), text)?.as_slice(),
+            names.as_bytes(),
+            "{text}"
+        );
+    }
+    Ok(())
+}
+
+#[test]
+fn a_file_is_found_by_its_number(rt: HostRuntime) -> Result<(), Fail> {
+    let tree = sample(rt.alloc())?;
+    for (id, text) in [(7, "/a/y"), (8, "/a/x/deep")] {
+        let path = Path::read(rt.alloc(), text.as_bytes())?;
+        assert!(rt;
+            tree.path_of(rt.alloc(), FileId(id))? == Some(path),
+            "{text}"
+        );
+    }
+    assert!(rt; tree.path_of(rt.alloc(), FileId(0))?.is_none());
+    Ok(())
+}

@@ -1,0 +1,142 @@
+//! The tree of names.
+
+ghost use Rattle.std.specs.Prelude.{◌≡◌, ◌∷◌, [], true, false, Some, None, length, IfOk, OnOk, OnErr, IfNone, is_some, option_map};
+ghost use Rattle.std.specs.Bool.{OnFalse};
+ghost use Rattle.fs_model.specs.State.{Node};
+ghost use Rattle.fs_model.specs.Lookups as machine;
+ghost use Rattle.fs_model.specs.Lookups.{find_node, walk_nodes, walk_above, names_in};
+ghost use Rattle.fs_model.specs.Changes.{put_node};
+ghost use Rattle.inode_tree.specs.Rows.{node_of, directory_row, row_of_node, leads_to, IfFound, OnFound, OnBlocked, file_row};
+
+use crate::entry::{
+    Entry, Inode, children, entries_under, file_entry, inode_at, place_of, walk_prefixes,
+};
+use crate::row::{Row, Walk};
+use fs_model::name::Name;
+use fs_model::numbers::FileId;
+use fs_model::path::Path;
+use std::alloc::{AllocError, Global};
+use std::marker::Model;
+
+/// The tree of names: directories and files by path, with `/` there from the start. A contract sees its nodes
+/// as the list of paths with nodes, in the order of the paths.
+#[derive(Debug, Drop)]
+pub struct Tree {
+    entries: Vec<Entry>,
+}
+
+impl Model for Tree {
+    ghost use Rattle.std.specs.Prelude.{◌≡◌, true};
+    ghost use Rattle.inode_tree.specs.Rows.{TreeView};
+    ghost use Rattle.inode_tree.specs.Entries.{node_rows, in_order};
+
+    ghost Value = { TreeView };
+
+    ghost view = { λ t. record { nodes = node_rows t.entries.items } };
+
+    ghost invariant = { λ t. in_order t.entries.items ≡ true };
+}
+
+impl Tree {
+    /// The tree that has `/` alone, a directory.
+    ///
+    /// An `Err` is want of memory.
+    pub fn new(alloc: Global) -> Result<Tree, AllocError>
+        ensures { IfOk result (λ tree. tree.nodes ≡ ([], Node.Directory) ∷ []) }
+    {
+        let mut entries = Vec::new(alloc);
+        entries.push(Entry {
+            path: Path::root(alloc),
+            inode: Inode::Directory,
+        })?;
+        Ok(Tree { entries })
+    }
+
+    /// How many nodes there are, `/` counted.
+    pub fn len(&self) -> usize
+        ensures { result ≡ length self.now.nodes }
+    {
+        self.entries.len()
+    }
+
+    /// Where the path leads. The first of its proper prefixes, from `/`, that is no directory decides: `Absent`
+    /// where it isn't there, `Blocked` where it is a file. With none such, `Found` or `Absent` by the path itself.
+    pub fn walk(&self, path: &Path) -> Walk
+        ensures leads { leads_to result ≡ walk_nodes self.now.nodes path.now }
+
+        // What was found is the node at the path, and its proper prefixes are directories.
+        ensures found { IfFound result (λ row. find_node self.now.nodes path.now ≡ Some (node_of row)) }
+        ensures row { IfFound result (λ row. row ≡ row_of_node (node_of row)) }
+        ensures above { OnFound result (walk_above self.now.nodes path.now ≡ machine.Walk.Found Node.Directory) }
+
+        // A file on the way is one of the proper prefixes.
+        ensures blocked { OnBlocked result (walk_above self.now.nodes path.now ≡ machine.Walk.Blocked) }
+    {
+        match self.walk_above(path) {
+            Walk::Absent => Walk::Absent,
+            Walk::Blocked => Walk::Blocked,
+            Walk::Found(_) => match inode_at(&self.entries, path.as_slice()) {
+                None => Walk::Absent,
+                Some(inode) => Walk::Found(inode.row()),
+            },
+        }
+    }
+
+    /// Where the proper prefixes of the path lead, whatever is at the path itself: `Found`, with a directory's
+    /// row, where each is a directory, else as `walk` answers.
+    pub fn walk_above(&self, path: &Path) -> Walk
+        ensures leads { leads_to result ≡ walk_above self.now.nodes path.now }
+        ensures row { IfFound result (λ row. row ≡ directory_row) }
+    {
+        walk_prefixes(&self.entries, path.as_slice())
+    }
+
+    /// Whether a node is at the path.
+    pub fn contains(&self, path: &Path) -> bool
+        ensures there { result ≡ is_some (find_node self.now.nodes path.now) }
+
+        // Where none is and the path's proper prefixes are directories, it leads to nothing.
+        ensures free { OnFalse result (walk_above self.now.nodes path.now ≡ machine.Walk.Found Node.Directory → walk_nodes self.now.nodes path.now ≡ machine.Walk.Absent) }
+    {
+        inode_at(&self.entries, path.as_slice()).is_some()
+    }
+
+    /// The path of the file with this number; `None` where there is no such file.
+    ///
+    /// An `Err` is want of memory.
+    pub fn path_of(&self, alloc: Global, id: FileId) -> Result<Option<Path>, AllocError>
+        ensures path { IfOk result (λ found. found ≡ option_map (λ r. r.0) (file_row self.now.nodes id)) }
+        ensures none { IfOk result (λ found. IfNone found (file_row self.now.nodes id ≡ None)) }
+    {
+        match file_entry(&self.entries, id.0) {
+            None => Ok(None),
+            Some(entry) => Ok(Some(entry.path.clone()?)),
+        }
+    }
+
+    /// Adds a node at a path where nothing is, below a directory. A file's number is no other file's.
+    ///
+    /// An `Err` is want of memory, and leaves the tree as it was.
+    pub fn add(&mut self, alloc: Global, path: &Path, row: Row) -> Result<(), AllocError>
+        requires absent { walk_nodes self.old.nodes path.now ≡ machine.Walk.Absent }
+        requires parent { walk_above self.old.nodes path.now ≡ machine.Walk.Found Node.Directory }
+        requires new_id { row.dir ≡ false → file_row self.old.nodes row.id ≡ None }
+        ensures ok { OnOk result (self.new.nodes ≡ put_node path.now (node_of row) self.old.nodes) }
+        ensures err { OnErr result (self.new.nodes ≡ self.old.nodes) }
+    {
+        let path = path.clone()?;
+        let inode = Inode::of(row);
+        let at = place_of(&self.entries, path.as_slice());
+        self.entries.insert(at, Entry { path, inode })?;
+        Ok(())
+    }
+
+    /// The names right below the path, in the order of their bytes. It looks at the nodes below the path alone.
+    ///
+    /// An `Err` is want of memory.
+    pub fn list(&self, alloc: Global, path: &Path) -> Result<Vec<Name>, AllocError>
+        ensures { IfOk result (λ names. names.items ≡ names_in self.now.nodes path.now) }
+    {
+        children(alloc, entries_under(&self.entries, path), path.as_slice())
+    }
+}

@@ -1,0 +1,9 @@
+//! All that the program reaches outside itself: where bytes come from and go to, and a world that
+//! has both. `memory` has the same in memory, told which of its calls are to fail.
+#![tactic(auto)]
+
+pub mod memory;
+pub mod stream;
+#[cfg(test)]
+mod tests;
+pub mod world;
