@@ -1,9 +1,9 @@
 //! What an actor may ask for.
 
-use crate::items::Items;
 use crate::label::Label;
 use crate::numbers::{BlockNo, PlanNo, StoreNo, TierNo, WorkerNo};
 use crate::path::Path;
+use crate::piece::Piece;
 use crate::prefix::Prefix;
 
 /// How a file is written (the write types of the Alluxio 2 documentation).
@@ -26,7 +26,7 @@ pub enum ReadType {
 /// Bytes to be written: listed, or `len` bytes from `at` on of the generator `num`.
 #[derive(Debug, Clone, PartialEq, Eq, Drop)]
 pub enum Fill {
-    Listed(Items<u8>),
+    Listed(Piece),
     Made { num: u8, at: u64, len: u32 },
 }
 

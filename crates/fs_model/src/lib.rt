@@ -11,6 +11,7 @@ pub mod laws;
 pub mod name;
 pub mod numbers;
 pub mod path;
+pub mod piece;
 pub mod prefix;
 pub mod reply;
 pub mod setup;

@@ -5,6 +5,7 @@ use crate::items::Items;
 use crate::name::Name;
 use crate::numbers::{Actor, BlockNo, FileId, PlanNo, StoreNo, TierNo, WorkerNo};
 use crate::path::Path;
+use crate::piece::Piece;
 
 /// How a file stands to its under-store: not to be kept there, to be kept, kept.
 #[derive(Clone, Copy, PartialEq, Eq, Debug)]
@@ -95,7 +96,7 @@ pub enum Reply {
     FromStore(StoreNo),
     Taken(u64),
     NeedsRoom,
-    Given(Items<u8>),
+    Given(Piece),
     Copied(u32),
     NeedsBlock(BlockNo),
     End,

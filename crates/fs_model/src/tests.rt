@@ -1,9 +1,9 @@
 use crate::block::{block_count, block_span};
 use crate::event::Fill;
-use crate::items::Items;
 use crate::label::Label;
 use crate::name::Name;
 use crate::path::{Path, PathFault};
+use crate::piece::Piece;
 use crate::prefix::Prefix;
 use std::alloc::Global;
 use std::cmp::Ordering;
@@ -113,7 +113,7 @@ fn blocks_have_one_size_but_the_last(rt: HostRuntime) {
 #[test]
 fn fills_are_copied(rt: HostRuntime) -> Result<(), Fail> {
     let alloc = rt.alloc();
-    let fill = Fill::Listed(Items::from_vec(Vec::from_slice(alloc, b"x")?));
+    let fill = Fill::Listed(Piece::from_vec(Vec::from_slice(alloc, b"x")?));
     let other = Fill::Made {
         num: 7,
         at: 0,
