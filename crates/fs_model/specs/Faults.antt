@@ -1,5 +1,5 @@
 -- Which devices an event calls, which of them may fail it, and what their faults leave.
-use Rattle.std.specs.Prelude.{ℕ, pred, ◌-◌, ◌/◌, Bool, true, false, cond, not, ◌&&◌, ◌||◌, List, [], ◌∷◌, length, take, find, get_or, nat_eq, nat_lt, nat_le, Option, Some, None, is_some, is_none, option_map, option_and_then}
+use Rattle.std.specs.Prelude.{ℕ, pred, ◌-◌, ◌/◌, Bool, true, false, cond, not, ◌&&◌, ◌||◌, List, [], ◌∷◌, length, get_or, nat_eq, nat_lt, nat_le, Option, Some, None, is_some, is_none, option_map, option_and_then}
 use Rattle.std.specs.List.{list_any, list_all, last_or}
 use Rattle.fs_model.specs.declared.path.Path.{Path}
 use Rattle.fs_model.specs.declared.prefix.Prefix.{Prefix}
@@ -11,9 +11,9 @@ use Rattle.fs_model.specs.declared.change.PlanKind.{PlanKind}
 use Rattle.fs_model.specs.declared.reply.Reply.{Reply}
 use Rattle.fs_model.specs.declared.reply.Refusal.{Refusal}
 use Rattle.fs_model.specs.Words.{under, path_eq, update_at}
-use Rattle.fs_model.specs.State.{State, Worker, Source, Stream, Writer, Mover, JobHand, Hand, Hands, OpenBlock, PlanRow, MountRow, StoreRows, Stray, Parked}
+use Rattle.fs_model.specs.State.{State, Worker, Source, Writer, Mover, Hand, Hands, OpenBlock, PlanRow, MountRow, StoreRows, Stray}
 use Rattle.fs_model.specs.Lookups.{hand_at, key_of, path_of, plan_at, stored_is_yes, store_of, mount_at, worker, is_running, is_empty, numbered}
-use Rattle.fs_model.specs.BytesEvents.{block_wanted, writer_stands, unbroken_at, stream_at, stored_by, writer_at}
+use Rattle.fs_model.specs.BytesEvents.{block_wanted, writer_stands, unbroken_at, stored_by, writer_at}
 use Rattle.fs_model.specs.BytesOutcomes.{sources, Candidate, commit_at, room_to_litter, BodyAndHands}
 use Rattle.fs_model.specs.NodesEvents.{unstray_in, sweep_outcome, actions_left, store_rows}
 use Rattle.fs_model.specs.Updates.{free_room, waiting_key, put_parked, set_hand, change_worker, without_room, no_store, release}

@@ -1,5 +1,5 @@
 -- Which change an accepted event makes, how many calls on the journal's areas it takes, and what is in doubt where the journal fails.
-use Rattle.std.specs.Prelude.{ℕ, Bool, true, false, not, List, [], ◌∷◌, nat_le, nat_lt, ◌||◌, Option, Some, None, option_map, option_and_then}
+use Rattle.std.specs.Prelude.{ℕ, Bool, true, false, List, [], ◌∷◌, nat_le, Option, Some, None, option_map, option_and_then}
 use Rattle.fs_model.specs.declared.setup.Setup.{Setup}
 use Rattle.fs_model.specs.declared.event.Event.{Event}
 use Rattle.fs_model.specs.declared.path.Path.{Path}

@@ -1,5 +1,5 @@
 -- Laws above the definitions of the machine.
-use Rattle.std.specs.Prelude.{◌≡◌, ◌≢◌, ℕ, pred, ◌≤◌, ◌<◌, ◌^◌, Bool, true, false, IsTrue, List, length, Option, None, Some}
+use Rattle.std.specs.Prelude.{◌≡◌, ◌≢◌, ℕ, pred, ◌≤◌, ◌<◌, ◌^◌, Bool, true, false, IsTrue, List, length, Option, Some}
 use Rattle.std.specs.Fmt.{decimal}
 use Rattle.fs_model.specs.declared.setup.Setup.{Setup}
 use Rattle.fs_model.specs.declared.event.Event.{Event}

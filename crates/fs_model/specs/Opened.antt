@@ -1,14 +1,9 @@
 -- What an opening over areas and stores gives.
-use Rattle.std.specs.Prelude.{◌≡◌, ℕ, max, Bool, true, false, cond, IsTrue, List, [], ◌∷◌, ◌++◌, map, length, replicate, nat_eq, Option, Some, None, option_map, option_and_then, unwrap_or, filter_map, flat_map, find}
+use Rattle.std.specs.Prelude.{◌≡◌, ℕ, max, true, false, cond, List, [], map, length, replicate, nat_eq, Option, Some, None, option_and_then, unwrap_or, filter_map}
 use Rattle.std.specs.List.{list_any, last_or, range_with_len}
 use Rattle.fs_model.specs.declared.setup.Setup.{Setup}
-use Rattle.fs_model.specs.declared.event.Event.{Event}
-use Rattle.fs_model.specs.declared.change.Change.{Change}
-use Rattle.fs_model.specs.Words.{block_of, option_list}
-use Rattle.fs_model.specs.State.{State, Whole, Names, NodeRow, Content, Copied, Registration, Hand, Hands, LabelRow, Doubt}
-use Rattle.fs_model.specs.Lookups.{file_in, file_of, hand_at, no_worker, stored_is_yes}
-use Rattle.fs_model.specs.Changes.{after}
-use Rattle.fs_model.specs.Updates.{content}
+use Rattle.fs_model.specs.State.{State, Whole, Names, NodeRow, Registration}
+use Rattle.fs_model.specs.Lookups.{file_in, no_worker}
 use Rattle.fs_model.specs.Mirror.{Mirror, Contents}
 
 -- ---- Opened

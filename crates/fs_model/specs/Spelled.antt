@@ -1,5 +1,5 @@
 -- What a script's text and a configuration can spell.
-use Rattle.std.specs.Prelude.{ℕ, ◌+◌, ◌^◌, Bool, true, false, not, ◌&&◌, ◌||◌, length, nat_eq, nat_lt, nat_le, List, []}
+use Rattle.std.specs.Prelude.{ℕ, ◌^◌, Bool, true, ◌&&◌, length, nat_eq, nat_lt, nat_le, List}
 use Rattle.std.specs.List.{list_all}
 use Rattle.fs_model.specs.declared.setup.Setup.{Setup}
 use Rattle.fs_model.specs.declared.event.Event.{Event}

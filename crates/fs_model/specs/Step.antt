@@ -1,5 +1,5 @@
 -- One step of the machine, with all that it may answer and leave, and runs of steps.
-use Rattle.std.specs.Prelude.{◌≡◌, ℕ, ◌<◌, Bool, true, false, cond, not, ◌&&◌, ◌||◌, IsTrue, List, [], ◌∷◌, length, take, drop, find, map, nat_eq, nat_lt, nat_le, Option, Some, None, is_some, is_none}
+use Rattle.std.specs.Prelude.{◌≡◌, ℕ, ◌<◌, Bool, true, false, cond, not, ◌&&◌, ◌||◌, IsTrue, List, [], ◌∷◌, length, take, drop, find, map, nat_eq, nat_lt, nat_le, Option, Some, None, is_some}
 use Rattle.std.specs.List.{list_all}
 use Rattle.fs_model.specs.declared.label.Label.{Label}
 use Rattle.fs_model.specs.declared.setup.Setup.{Setup}

@@ -1,5 +1,5 @@
 -- Small words on lists, paths and choices that the other definitions share.
-use Rattle.std.specs.Prelude.{ℕ, zero, suc, ◌%◌, ◌++◌, ◌+◌, ◌-◌, ◌/◌, ◌*◌, min, Bool, true, false, cond, ◌&&◌, List, [], ◌∷◌, map, length, take, drop, get_or, set, nat_eq, nat_lt, Option, Some, None}
+use Rattle.std.specs.Prelude.{ℕ, zero, suc, ◌%◌, ◌++◌, ◌+◌, ◌-◌, ◌/◌, ◌*◌, min, Bool, true, false, cond, ◌&&◌, List, [], ◌∷◌, map, take, drop, get_or, set, nat_eq, nat_lt, Option, Some, None}
 use Rattle.std.specs.Cmp.Lexicographic.{slice_cmp}
 use Rattle.std.specs.Ordering.{is_lt, nat_cmp}
 use Rattle.std.specs.declared.cmp.Ordering.{Ordering}

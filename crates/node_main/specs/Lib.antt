@@ -1,5 +1,0 @@
-pub mod Stands
-pub mod Tests
-pub mod Play
-pub mod Words
-pub mod Ends

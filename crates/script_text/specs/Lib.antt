@@ -1,0 +1,5 @@
+pub mod Words
+pub mod LineText
+pub mod Commands
+pub mod ScriptForm
+pub mod ScriptText

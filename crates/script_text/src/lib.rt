@@ -1,0 +1,9 @@
+//! The texts of scripts and of lines: a script is read, a line is written.
+#![tactic(auto)]
+
+pub mod line;
+pub mod read;
+pub mod script;
+#[cfg(test)]
+mod tests;
+mod word;
