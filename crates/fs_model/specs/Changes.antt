@@ -14,15 +14,19 @@ use Rattle.fs_model.specs.Lookups.{has_node, path_of, id_is, stored_under}
 
 -- ---- rows of nodes
 
+-- the node stands at its place by path, in place of any there
 abbrev pub put_node : Path → Node → List NodeRow → List NodeRow
 put_node p n rows = entries.put path_cmp p n rows
 
+-- the nodes whose paths pass the test
 abbrev pub keep_nodes : (Path → Bool) → List NodeRow → List NodeRow
 keep_nodes test rows = where_key path_cmp test rows
 
+-- the names with this node
 abbrev pub add_node : Path → Node → Names → Names
 add_node p n N = record N { nodes = put_node p n N.nodes }
 
+-- the names without the nodes under a path
 abbrev pub remove_under : Path → Names → Names
 remove_under p N = record N { nodes = keep_nodes (λ x. not (under x p)) N.nodes }
 
@@ -30,19 +34,24 @@ remove_under p N = record N { nodes = keep_nodes (λ x. not (under x p)) N.nodes
 abbrev pub moved_rows : Path → Path → List NodeRow → List NodeRow
 moved_rows p q rows = map (λ (r : NodeRow). (q ++ drop (length p) r.0, r.1)) (keep_nodes (λ x. under x p) rows)
 
+-- the names with the nodes under one path under another instead
 abbrev pub relocate : Path → Path → Names → Names
 relocate p q N = record N { nodes = fold (λ rows (r : NodeRow). put_node r.0 r.1 rows) (keep_nodes (λ x. not (under x p)) N.nodes) (moved_rows p q N.nodes) }
 
+-- a file is changed, a directory is not
 abbrev pub set_file : (File → File) → Node → Node
 set_file change Node.Directory = Node.Directory
 set_file change (Node.IsFile f) = Node.IsFile (change f)
 
+-- the file with this id is changed
 abbrev pub change_file : ℕ → (File → File) → Names → Names
 change_file id change N = record N { nodes = map (λ (r : NodeRow). (r.0, cond (id_is id r.1) (set_file change r.1) r.1)) N.nodes }
 
+-- the file at this path is changed
 abbrev pub change_file_at : Path → (File → File) → Names → Names
 change_file_at p change N = record N { nodes = map (λ (r : NodeRow). (r.0, cond (path_eq r.0 p) (set_file change r.1) r.1)) N.nodes }
 
+-- the proper prefixes of a path that have no node
 abbrev pub missing_parts : Names → Path → List Path
 missing_parts N p = filter (λ q. not (has_node N q)) (parts p)
 
@@ -52,9 +61,11 @@ add_with_parts p n N = record N { nodes = put_node p n (fold (λ rows q. put_nod
 
 -- ---- plans
 
+-- the next id is above this one
 abbrev pub raise_id : ℕ → Names → Names
 raise_id id N = record N { next_id = max N.next_id (id + 1) }
 
+-- Write locks of a plan on these paths
 abbrev pub write_locks : ℕ → List Path → List LockRow
 write_locks plan ps = map (λ p. record { plan = plan; path = p; write = true }) ps
 
@@ -68,11 +79,13 @@ begin_plan row locks N =
       next_plan = cond none N.next_plan (max N.next_plan (row.number + 1));
     }
 
+-- a Publish plan for the file with this id, with a Read lock on its path
 abbrev pub begin_publish : ℕ → ℕ → Names → Names
 begin_publish id plan N =
     let p = unwrap_or (path_of N id) [] in
     begin_plan (record { number = plan; kind = PlanKind.Publish; path = p; to = []; leaves = [] }) (record { plan = plan; path = p; write = false } ∷ []) N
 
+-- the plan and its locks go
 abbrev pub end_plan : ℕ → Names → Names
 end_plan plan N = record N {
   plans = filter (λ r. not (nat_eq r.number plan)) N.plans;
@@ -81,6 +94,7 @@ end_plan plan N = record N {
 
 -- ---- the change
 
+-- what a change does to the names
 abbrev pub apply : Change → Names → Names
 apply (Change.Mkdir p) N = add_node p Node.Directory N
 apply (Change.Create id p) N =
@@ -116,15 +130,18 @@ no_names = record {
   next_plan = 1;
 }
 
+-- the names after these changes, one after the other
 abbrev pub after : Names → List Change → Names
 after N changes = fold (λ M c. apply c M) N changes
 
 -- ---- how long an entry's text is: four bytes for the length, the kind byte and the fields
 
+-- the length of a key's text
 abbrev pub key_len : Prefix → ℕ
 key_len [] = 0
 key_len (x ∷ xs) = pred (path_len (x ∷ xs))
 
+-- the length of a change's entry
 abbrev pub entry_len : Change → ℕ
 entry_len (Change.Mkdir p) = 7 + path_len p
 entry_len (Change.Create id p) = 15 + path_len p

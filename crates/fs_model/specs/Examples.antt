@@ -24,9 +24,11 @@ use Rattle.fs_model.specs.Mirror.{settled_objects, bytes_at, Side}
 use Rattle.fs_model.specs.NodesEvents.{Object, restart_outcome}
 use Rattle.fs_model.specs.Machine.{replies, final, refusal, hands_of}
 
+-- two workers with small tiers, two stores, and blocks of 4
 abbrev pub two_workers : Setup
 two_workers = record { block = 4; patience = 3; area = 1073741824; root = []; stores = 2; tiers = (8 ∷ 8 ∷ []) ∷ (8 ∷ []) ∷ [] }
 
+-- events, each with its actor
 abbrev pub Script : Type 0
 Script = List (ℕ × Event)
 
@@ -34,9 +36,11 @@ Script = List (ℕ × Event)
 abbrev pub one : List Event → Script
 one es = map (λ e. (1, e)) es
 
+-- what `up` does
 abbrev pub up : ℕ → Script
 up w = one (Event.Start w ∷ Event.Register w ∷ [])
 
+-- so many blocks of the generator, each with its room
 abbrev pub pieces : Label → ℕ → ℕ → ℕ → List Event
 pieces l num at zero = []
 pieces l num at (suc k) = Event.Room l ∷ Event.Put l (Fill.Made num at 4) ∷ pieces l num (at + 4) k
@@ -49,6 +53,7 @@ copyin l p kind w num blocks = one (Event.Create l p kind w ∷ (pieces l num 0 
 abbrev pub told_after : Setup → Script → Script → List Reply
 told_after S before script = replies S (final S (fresh S) before) script
 
+-- nothing happened before
 abbrev pub no_events : Script
 no_events = []
 
@@ -197,9 +202,11 @@ a_persisted_block_makes_room : told_after two_workers (up 2 ++ copyin (codes "a"
     ∷ []
 a_persisted_block_makes_room = refl
 
+-- a file of one block at worker 1
 abbrev pub one_kept_block : Script
 one_kept_block = up 1 ++ copyin (codes "f") (codes "a" ∷ []) WriteType.MustCache 1 0 1
 
+-- a reader holds the block while it is moved
 abbrev pub a_move_beside_a_reader : Script
 a_move_beside_a_reader =
     (1, Event.OpenFile (codes "r") (codes "a" ∷ []) ReadType.NoCache 0)
@@ -362,6 +369,7 @@ a_mount_survives_checkpoint_and_restart : told_after two_workers no_events (one 
     ∷ []
 a_mount_survives_checkpoint_and_restart = refl
 
+-- a file is written through, published and read
 abbrev pub a_publishing : Script
 a_publishing = one (
     Event.Create (codes "f") (codes "a" ∷ []) WriteType.Through 0
@@ -503,6 +511,7 @@ pinned_blocks_are_not_freed : told_after two_workers (up 2 ++ copyin (codes "f")
     ∷ []
 pinned_blocks_are_not_freed = refl
 
+-- areas of 64 bytes
 abbrev pub small_area : Setup
 small_area = record two_workers { area = 64 }
 
@@ -563,6 +572,7 @@ a_mount_loads_its_store : replies two_workers stocked (one (
     ∷ []
 a_mount_loads_its_store = refl
 
+-- the objects of both stores after a script
 abbrev pub mirror_of : Script → List (List Object)
 mirror_of es = let A = (final two_workers (fresh two_workers) es).body in settled_objects A 1 ∷ settled_objects A 2 ∷ []
 
@@ -576,15 +586,19 @@ a_published_object_is_in_its_store = refl
 abbrev pub before_the_stop : Whole
 before_the_stop = final two_workers (fresh two_workers) (one (Event.Mkdir (codes "y" ∷ []) ∷ Event.Fuse 3 ∷ []))
 
+-- the event whose append fails
 abbrev pub make_z : Event
 make_z = Event.Mkdir (codes "z" ∷ [])
 
+-- the state that the failed append leaves
 abbrev pub stopped_body : State
 stopped_body = stopped_with (doubt_of two_workers before_the_stop.body [] make_z) (Some 0) before_the_stop.body
 
+-- the least that a fault leaves
 abbrev pub any_remains : Remains
 any_remains = record { begun = false; fate = BlockFate.IsGone; keeps_room = true; parks = true; acted = false; breaks = false }
 
+-- no count rose
 abbrev pub no_rise : Rise
 no_rise = record { stores = []; tiers = []; journal = 0; waits = 0 }
 
@@ -592,6 +606,7 @@ no_rise = record { stores = []; tiers = []; journal = 0; waits = 0 }
 a_short_fuse_stops_the_master : Step two_workers before_the_stop.body 1 [] make_z (Reply.Refused Refusal.JournalFault) stopped_body [] no_rise None
 a_short_fuse_stops_the_master = Step.Stops any_remains (Some 0) refl refl refl refl refl refl refl refl refl refl
 
+-- the names in `/` after a restart
 abbrev pub names_after_restart : Bool → List Name
 names_after_restart keeps = children (restart_outcome (record (fault_free 0) { keeps = keeps }) stopped_body).1.names []
 
@@ -614,6 +629,7 @@ a_rename_under_way = (final two_workers (fresh two_workers) (one (
     ∷ Event.Rename (codes "d" ∷ []) (codes "e" ∷ [])
     ∷ []))).body
 
+-- the one action left, done or not
 abbrev pub side : Bool → List Side
 side done = record { done = done; old = [] } ∷ []
 
@@ -627,12 +643,15 @@ an_object_is_at_one_of_two_keys = (refl, refl, refl, refl)
 abbrev pub while_writing : Whole
 while_writing = final two_workers (fresh two_workers) (up 1 ++ one (Event.Create (codes "f") (codes "a" ∷ []) WriteType.MustCache 1 ∷ Event.Room (codes "f") ∷ Event.Put (codes "f") (Fill.Listed (7 ∷ [])) ∷ []))
 
+-- a Put into the open block
 abbrev pub put_more : Event
 put_more = Event.Put (codes "f") (Fill.Listed (8 ∷ []))
 
+-- the count of worker 1's tiers rose
 abbrev pub tier_1_rose : Rise
 tier_1_rose = record no_rise { tiers = 1 ∷ [] }
 
+-- the labels of actor 1
 abbrev pub labels_of_1 : Whole → Hands
 labels_of_1 W = hands_of W 1
 
@@ -650,6 +669,7 @@ no_other_fault_may_come = (refl, refl)
 
 -- ---- limits
 
+-- so many files, each under a label of its own
 abbrev pub many_creates : ℕ → List Event
 many_creates zero = []
 many_creates (suc n) = many_creates n ++ Event.Create (number_text n) (number_text n ∷ []) WriteType.MustCache 1 ∷ []

@@ -32,20 +32,24 @@ pub data Device : Type 0 where
   TiersOf : ℕ → Device
   StoreOf : ℕ → Device
 
+-- two devices are one
 abbrev pub device_eq : Device → Device → Bool
 device_eq (Device.TiersOf w) (Device.TiersOf v) = nat_eq w v
 device_eq (Device.StoreOf s) (Device.StoreOf t) = nat_eq s t
 device_eq (Device.TiersOf w) (Device.StoreOf t) = false
 device_eq (Device.StoreOf s) (Device.TiersOf v) = false
 
+-- the device's count rose
 abbrev pub rose : Rise → Device → Bool
 rose r (Device.TiersOf w) = nat_lt 0 (get_or r.tiers (pred w) 0)
 rose r (Device.StoreOf s) = nat_lt 0 (get_or r.stores (pred s) 0)
 
+-- the device of a source
 abbrev pub device_of : Source → Device
 device_of (Source.AtWorker w t) = Device.TiersOf w
 device_of (Source.AtStore s) = Device.StoreOf s
 
+-- the count of the source's device rose
 abbrev pub source_rose : Rise → Source → Bool
 source_rose r src = rose r (device_of src)
 
@@ -61,6 +65,7 @@ device_named reply = None
 abbrev pub crosses : Prefix → Stray → Bool
 crosses k x = not (path_eq k x.key) && (under k x.key || under x.key k)
 
+-- the store, where an object at this key would cross a stray
 abbrev pub clash_at : State → Option (ℕ × Prefix) → Option ℕ
 clash_at A None = None
 clash_at A (Some k) = cond (list_any (crosses k.1) (store_rows A k.0).strays) (Some k.0) None
@@ -69,12 +74,14 @@ clash_at A (Some k) = cond (list_any (crosses k.1) (store_rows A k.0).strays) (S
 abbrev pub waiting_place : State → ℕ → Option (ℕ × Prefix)
 waiting_place A id = option_map (λ (k : ℕ × Prefix). (k.0, waiting_key A.names.next_plan)) (option_and_then (key_of A.names) (path_of A.names id))
 
+-- where the object of a finished writer or job would wait
 abbrev pub finish_place : State → Hand → Option (ℕ × Prefix)
 finish_place A (Hand.Reading s) = None
 finish_place A (Hand.Writing w) = cond (stored_is_yes (stored_by w.kind)) (waiting_place A w.file) None
 finish_place A (Hand.Moving m) = None
 finish_place A (Hand.Storing j) = waiting_place A j.file
 
+-- the first of some paths
 abbrev pub first_path : List Path → Option Path
 first_path [] = None
 first_path (p ∷ ps) = Some p
@@ -95,16 +102,20 @@ clash A H e = None
 
 -- ---- which devices an event calls, where nothing refuses it
 
+-- the device is the tiers of this worker
 abbrev pub is_tier : ℕ → Device → Bool
 is_tier w d = device_eq (Device.TiersOf w) d
 
+-- the device is this store
 abbrev pub is_store : ℕ → Device → Bool
 is_store s d = device_eq (Device.StoreOf s) d
 
+-- the open block has a room
 abbrev pub has_room : Option OpenBlock → Bool
 has_room None = false
 has_room (Some b) = is_some b.room
 
+-- a file of this write type is stored when it is finished
 abbrev pub publishes : WriteType → Bool
 publishes kind = stored_is_yes (stored_by kind)
 
@@ -115,22 +126,27 @@ is_through WriteType.CacheThrough = false
 is_through WriteType.Through = true
 is_through WriteType.AsyncThrough = false
 
+-- Room calls the writer's worker for a new block or a commit
 abbrev pub room_calls : State → Writer → Device → Bool
 room_calls A w d = is_tier w.worker d && block_wanted w.bs w.block && writer_stands A w && not (is_through w.kind)
 
+-- Put calls the worker of its open block, and the store of its object
 abbrev pub put_calls : Writer → Device → Bool
 put_calls w d = not (block_wanted w.bs w.block) && ((is_tier w.worker d && has_room w.block) || (is_store w.store d && publishes w.kind))
 
+-- Finish calls the worker of a commit or a move, and the store of an object
 abbrev pub finish_calls : State → Hand → Device → Bool
 finish_calls A (Hand.Reading s) d = false
 finish_calls A (Hand.Writing w) d = (is_tier w.worker d && has_room w.block && writer_stands A w) || (is_store w.store d && publishes w.kind)
 finish_calls A (Hand.Moving m) d = is_tier m.held.worker d
 finish_calls A (Hand.Storing j) d = is_store j.store d
 
+-- the test of the writer, if there is one
 abbrev pub by_writer : (Writer → Bool) → Option Writer → Bool
 by_writer test None = false
 by_writer test (Some w) = test w
 
+-- the test of what the label has, if there is one
 abbrev pub by_hand : (Hand → Bool) → Option Hand → Bool
 by_hand test None = false
 by_hand test (Some h) = test h
@@ -140,17 +156,21 @@ abbrev pub sweep_calls_store : State → Device → Bool
 sweep_calls_store A (Device.TiersOf w) = false
 sweep_calls_store A (Device.StoreOf s) = nat_lt 0 s && nat_le s (length A.stores) && list_all (λ (r : ℕ × StoreRows). nat_le s r.0 || is_empty r.1.parked) (numbered A.stores)
 
+-- Sweep calls the stores, or the worker that has litter
 abbrev pub sweep_calls : State → ℕ → Device → Bool
 sweep_calls A w d = cond (nat_eq w 0) (sweep_calls_store A d) (is_tier w d && not (is_empty (worker A w).litter))
 
+-- the device is the mount's store
 abbrev pub mount_store : Option MountRow → Device → Bool
 mount_store None d = false
 mount_store (Some m) d = is_store m.store d
 
+-- the device is the store of the first action
 abbrev pub action_store : State → List Path → Device → Bool
 action_store A [] d = false
 action_store A (p ∷ ps) d = is_store (store_of A.names p) d
 
+-- Pump calls the store of the plan's next action, or of its mount
 abbrev pub pump_calls : State → Device → Option PlanRow → Bool
 pump_calls A d None = false
 pump_calls A d (Some r) = elim r.kind as (λ k. Bool) [
@@ -192,6 +212,7 @@ pub record Remains : Type 0 where
   -- whether a job's own object failed, and not its reader
   pub breaks : Bool
 
+-- one of three states, by what became of the block
 abbrev pub by_fate : BlockFate → State → State → State → State
 by_fate BlockFate.IsCopy copy litter gone = copy
 by_fate BlockFate.IsLitter copy litter gone = litter
@@ -212,16 +233,20 @@ block_lost S x A w n b =
     freed)
     (cond x.keeps_room A freed)
 
+-- the label keeps its open block
 abbrev pub keeps_block : Remains → State → Writer → Bool
 keeps_block x A w = not (is_begun x A w) && x.keeps_room
 
+-- the open block, if there is one, is given up
 abbrev pub block_lost_by : Setup → Remains → State → Writer → Option OpenBlock → State
 block_lost_by S x A w None = A
 block_lost_by S x A w (Some b) = record A { workers = elim b.room [ None ↦ A.workers | Some n ↦ (block_lost S x A w n b).workers ] }
 
+-- the writer is broken
 abbrev pub broken_writer : Remains → State → Hands → Label → Writer → Hands
 broken_writer x A H l w = set_hand l (Hand.Writing (record w { broken = true; block = cond (keeps_block x A w) w.block None })) H
 
+-- what a fault of Room leaves
 abbrev pub writer_after_fault : Setup → Remains → State → Hands → Label → Option Writer → BodyAndHands
 writer_after_fault S x A H l None = (A, H)
 writer_after_fault S x A H l (Some w) = (block_lost_by S x A w w.block, broken_writer x A H l w)
@@ -231,9 +256,11 @@ abbrev pub put_after_fault : Hands → Label → Option Writer → Hands
 put_after_fault H l None = H
 put_after_fault H l (Some w) = set_hand l (Hand.Writing (record w { broken = true })) H
 
+-- an object waits in the store
 abbrev pub park : ℕ → List ℕ → StoreRows → StoreRows
 park n bs R = record R { parked = put_parked (record { plan = n; bytes = bs }) R.parked }
 
+-- an object waits in the store of this key
 abbrev pub park_in : ℕ → List ℕ → Option (ℕ × Prefix) → List StoreRows → List StoreRows
 park_in n bs None rows = rows
 park_in n bs (Some k) rows = update_at (pred k.0) no_store (park n bs) rows
@@ -242,9 +269,11 @@ park_in n bs (Some k) rows = update_at (pred k.0) no_store (park n bs) rows
 abbrev pub clear_place : State → Option (ℕ × Prefix) → Option (ℕ × Prefix)
 clear_place A o = cond (is_some (clash_at A o)) None o
 
+-- a finished object waits, where it is chosen so
 abbrev pub parked_if : Bool → State → Option (ℕ × Prefix) → List ℕ → State → State
 parked_if b A k bs B = record B { stores = cond b (park_in A.names.next_plan bs k B.stores) B.stores }
 
+-- the room of a mover that failed is freed, and its object is litter or gone
 abbrev pub mover_room_lost : BlockFate → ℕ → Worker → Worker
 mover_room_lost BlockFate.IsCopy n W = without_room n W
 mover_room_lost BlockFate.IsLitter n W = room_to_litter n W
@@ -254,6 +283,7 @@ mover_room_lost BlockFate.IsGone n W = without_room n W
 abbrev pub mover_after_fault : Remains → ℕ → Label → Mover → State → State
 mover_after_fault x who l m A = release who l (change_worker m.held.worker (mover_room_lost x.fate m.room) A)
 
+-- what a fault of Finish leaves
 abbrev pub finish_after_fault : Setup → Remains → State → ℕ → Hands → Label → Option Hand → BodyAndHands
 finish_after_fault S x A who H l None = (A, H)
 finish_after_fault S x A who H l (Some (Hand.Reading s)) = (A, H)
@@ -298,12 +328,14 @@ seeks_source (Hand.Writing w) = false
 seeks_source (Hand.Moving m) = false
 seeks_source (Hand.Storing j) = nat_lt j.at (length j.bytes) && is_none j.source
 
+-- the sources that Next would try
 abbrev pub sources_for : Setup → State → Hand → List Candidate
 sources_for S A (Hand.Reading s) = sources A s.worker s.file (s.at / s.bs)
 sources_for S A (Hand.Writing w) = []
 sources_for S A (Hand.Moving m) = []
 sources_for S A (Hand.Storing j) = sources A 0 j.file (j.at / j.bs)
 
+-- the device is that of the source
 abbrev pub is_source : Device → Option Source → Bool
 is_source d None = false
 is_source d (Some src) = device_eq d (device_of src)
@@ -319,6 +351,7 @@ copy_may_fail x d (Hand.Writing w) = false
 copy_may_fail x d (Hand.Moving m) = nat_lt m.copied m.len && is_tier m.held.worker d
 copy_may_fail x d (Hand.Storing j) = is_some j.source && cond x.breaks (is_store j.store d) (is_source d j.source)
 
+-- the device is the store of a clash
 abbrev pub is_clash_at : Option ℕ → Device → Bool
 is_clash_at None d = false
 is_clash_at (Some s) d = is_store s d
@@ -330,6 +363,7 @@ may_fail_by S x A H (Event.Poll l max) r d = rose r d && by_hand (copy_may_fail 
 may_fail_by S x A H (Event.Copy l) r d = rose r d && by_hand (copy_may_fail x d) (unbroken_at H l)
 may_fail_by S x A H e r d = (rose r d && calls A H e d) || is_clash_at (clash A H e) d
 
+-- the test of the device that a reply names
 abbrev pub fails_by : (Device → Bool) → Option Device → Bool
 fails_by test None = false
 fails_by test (Some d) = test d

@@ -13,21 +13,25 @@ use Rattle.fs_model.specs.NodesEvents.{seen_change, due, lost_change, checkpoint
 
 -- ---- the change of an event
 
+-- the change of a Finish
 abbrev pub finish_change : State → Hand → Option Change
 finish_change A (Hand.Reading s) = None
 finish_change A (Hand.Writing w) = Some (writer_change A w)
 finish_change A (Hand.Moving m) = None
 finish_change A (Hand.Storing j) = Some (job_change A j)
 
+-- the change of a Load's next key, or its end
 abbrev pub load_change : Setup → State → PlanRow → Load → Option Change
 load_change S A r Load.Nothing = Some (Change.PlanEnd r.number)
 load_change S A r (Load.PassOver x) = None
 load_change S A r (Load.Take m x) = Some (loaded_change A m x)
 
+-- the end of a plan without an action left
 abbrev pub end_change : PlanRow → List Path → Option Change
 end_change r [] = Some (Change.PlanEnd r.number)
 end_change r (p ∷ ps) = None
 
+-- the change of a Pump, if it makes one
 abbrev pub pump_change : Setup → State → PlanRow → Option Change
 pump_change S A r = elim r.kind as (λ k. Option Change) [
   | PlanKind.Load ↦ load_change S A r (load_next S A r)
@@ -57,6 +61,7 @@ abbrev pub calls_of_change : Option Change → ℕ
 calls_of_change None = 0
 calls_of_change (Some c) = 4
 
+-- the calls on the areas that an event takes
 abbrev pub calls_needed : Setup → State → Hands → Event → ℕ
 calls_needed S A H Event.Checkpoint = checkpoint_calls A.names
 calls_needed S A H e = calls_of_change (change_of S A H e)

@@ -93,5 +93,6 @@ NumberTextIsDecimal = (n : ℕ) → n < 10 ^ 64 → number_text n ≡ decimal n
 abbrev pub PathLengthIsOfText : Type 0
 PathLengthIsOfText = (p : Path) → path_len p ≡ length (path_text p)
 
+-- the same of a key
 abbrev pub KeyLengthIsOfText : Type 0
 KeyLengthIsOfText = (k : Prefix) → key_len k ≡ length (key_text k)

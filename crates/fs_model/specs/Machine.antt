@@ -60,6 +60,7 @@ usual_amount S H _ = 0
 abbrev pub kept : Hands → Reply × State → Outcome
 kept H o = (o.0, o.1, H)
 
+-- an event that touches its actor's own labels alone
 abbrev pub own : State → OwnOutcome → Outcome
 own A o = (o.0, A, o.1)
 
@@ -105,6 +106,7 @@ abbrev pub idle_hands : Event → Reply → Hands → Hands
 idle_hands (Event.Finish l) Reply.Idle H = end_hand l H
 idle_hands e r H = H
 
+-- the body after an event that is refused or idle
 abbrev pub idle_body : ℕ → Event → Reply → State → State
 idle_body who e r A = record A { holds = idle_holds e r }
   where
@@ -112,18 +114,22 @@ idle_body who e r A = record A { holds = idle_holds e r }
     idle_holds (Event.Finish l) Reply.Idle = (release who l A).holds
     idle_holds e r = A.holds
 
+-- what an event does, by its first test that holds
 abbrev pub outcome_by : Setup → Choices → State → Hands → ℕ → Event → Option Reply → Outcome
 outcome_by S k A H who e (Some r) = (r, idle_body who e r A, idle_hands e r H)
 outcome_by S k A H who e None = accepted S k A H who e
 
+-- what an event answers and does, where nothing fails
 abbrev pub outcome : Setup → Choices → State → Hands → ℕ → Event → Outcome
 outcome S k A H who e = outcome_by S k A H who e (refusal S A H e)
 
 -- ---- all actors together
 
+-- the labels of an actor
 abbrev pub hands_of : Whole → ℕ → Hands
 hands_of W who = get_or W.hands (pred who) []
 
+-- the whole with this body and these labels of the actor
 abbrev pub put_back : Whole → ℕ → State → Hands → Whole
 put_back W who A H = record { body = A; hands = set W.hands (pred who) H }
 
@@ -131,10 +137,12 @@ put_back W who A H = record { body = A; hands = set W.hands (pred who) H }
 abbrev pub one_step : Setup → Whole → ℕ × Event → Outcome
 one_step S W e = let H = hands_of W e.0 in outcome S (fault_free (usual_amount S H e.1)) W.body H e.0 e.1
 
+-- the replies to a list of events
 abbrev pub replies : Setup → Whole → List (ℕ × Event) → List Reply
 replies S W [] = []
 replies S W (e ∷ es) = let o = one_step S W e in o.0 ∷ replies S (put_back W e.0 o.1 o.2) es
 
+-- the whole after a list of events
 abbrev pub final : Setup → Whole → List (ℕ × Event) → Whole
 final S W [] = W
 final S W (e ∷ es) = let o = one_step S W e in final S (put_back W e.0 o.1 o.2) es

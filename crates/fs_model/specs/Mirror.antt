@@ -26,6 +26,7 @@ pub record Pending : Type 0 where
 abbrev pub path_before : PlanRow → Path → Path
 path_before r p = r.path ++ drop (length r.to) p
 
+-- an action left, by the plan's kind
 abbrev pub pending_action : State → PlanRow → Path → Pending
 pending_action A r p = elim r.kind as (λ k. Pending) [
   | PlanKind.Move ↦ record { before = key_of A.names (path_before r p); after = key_of A.names p; bytes = Some (content A (id_at A p)) }
@@ -34,6 +35,7 @@ pending_action A r p = elim r.kind as (λ k. Pending) [
   | PlanKind.Load ↦ record { before = None; after = None; bytes = None }
 ]
 
+-- all actions left, by rising plan
 abbrev pub pending : State → List Pending
 pending A = flat_map (λ r. map (pending_action A r) (actions_left A r)) A.names.plans
 
@@ -41,12 +43,15 @@ pending A = flat_map (λ r. map (pending_action A r) (actions_left A r)) A.names
 abbrev pub awaited_paths : State → List Path
 awaited_paths A = flat_map (λ (r : PlanRow). elim r.kind [ PlanKind.Remove ↦ [] | _ ↦ actions_left A r ]) A.names.plans
 
+-- the object of a file at its key
 abbrev pub placed_file : State → Path → Option Placed
 placed_file A p = option_map (λ (k : ℕ × Prefix). (k.0, (k.1, content A (id_at A p)))) (key_of A.names p)
 
+-- the objects of stored files that no plan has still to bring
 abbrev pub settled_files : State → List Placed
 settled_files A = filter_map (placed_file A) (filter (λ p. not (list_any (path_eq p) (awaited_paths A))) (stored_under A.names []))
 
+-- the object joins those of this store
 abbrev pub put_placed : ℕ → List Object → Placed → List Object
 put_placed s xs x = cond (nat_eq x.0 s) (entries.put path_cmp x.1.0 x.1.1 xs) xs
 
@@ -59,21 +64,26 @@ pub record Side : Type 0 where
   pub done : Bool
   pub old : List ℕ
 
+-- the bytes that are known, else the old ones
 abbrev pub bytes_or : Option (List ℕ) → List ℕ → List ℕ
 bytes_or None old = old
 bytes_or (Some bs) old = bs
 
+-- an object at this place, if there is one
 abbrev pub object_at : Option (ℕ × Prefix) → List ℕ → Option Placed
 object_at None bs = None
 object_at (Some k) bs = Some (k.0, (k.1, bs))
 
+-- where the object of an action left is, by whether it was done
 abbrev pub pending_object : Pending → Side → Option Placed
 pending_object g s = cond s.done (object_at g.after (bytes_or g.bytes s.old)) (object_at g.before (bytes_or g.bytes s.old))
 
+-- that object, if there is one, joins those of this store
 abbrev pub put_pending : ℕ → List Object → Option Placed → List Object
 put_pending s xs None = xs
 put_pending s xs (Some x) = put_placed s xs x
 
+-- the objects of the store with those of the actions left
 abbrev pub objects_by : ℕ → List Pending → List Side → List Object → List Object
 objects_by s [] sides xs = xs
 objects_by s (g ∷ gs) [] xs = xs

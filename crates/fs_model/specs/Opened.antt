@@ -12,6 +12,7 @@ use Rattle.fs_model.specs.Mirror.{Mirror, Contents}
 abbrev pub registration_count : Setup → Names → ℕ
 registration_count S N = max (length S.tiers) (unwrap_or (last_or None N.seen) 0)
 
+-- nobody is known; awaited is seen
 abbrev pub first_registration : Names → ℕ → Registration
 first_registration N w = record { known = false; awaited = list_any (nat_eq w) N.seen; silence = 0 }
 
@@ -32,9 +33,11 @@ first_body S N gate generation = record {
 abbrev pub done_shape : NodeRow → Option (ℕ × ℕ)
 done_shape r = option_and_then (λ f. cond f.done (Some (f.id, f.len)) None) (file_in r.1)
 
+-- the ids and lengths of the done files
 abbrev pub done_shapes : Names → List (ℕ × ℕ)
 done_shapes N = filter_map done_shape N.nodes
 
+-- the ids and lengths of the bytes that are kept
 abbrev pub content_shapes : State → List (ℕ × ℕ)
 content_shapes A = map (λ c. (c.file, length c.bytes)) A.contents
 

@@ -9,6 +9,7 @@ use Rattle.fs_model.specs.PathForm.{is_path, is_label, is_plain_key}
 
 -- ---- numbers of a script
 
+-- an actor is 1 to 64
 abbrev pub is_actor : ℕ → Bool
 is_actor n = nat_le 1 n && nat_le n 64
 
@@ -16,6 +17,7 @@ is_actor n = nat_le 1 n && nat_le n 64
 abbrev pub is_worker_word : ℕ → Bool
 is_worker_word w = nat_le w 1000
 
+-- a worker, and not none
 abbrev pub is_some_worker : ℕ → Bool
 is_some_worker w = nat_le 1 w && nat_le w 1000
 
@@ -76,6 +78,7 @@ is_spelled Event.Restart = true
 
 -- ---- configurations
 
+-- the number lies between two, both allowed
 abbrev pub is_within : ℕ → ℕ → ℕ → Bool
 is_within low high n = nat_le low n && nat_le n high
 

@@ -11,6 +11,7 @@ use Rattle.fs_model.specs.declared.event.WriteType.{WriteType}
 
 -- ---- what the journal keeps
 
+-- what the journal keeps of a file
 pub record File : Type 0 where
   pub id : ℕ
   pub len : ℕ
@@ -18,6 +19,7 @@ pub record File : Type 0 where
   pub stored : Stored
   pub pinned : Bool
 
+-- a directory or a file
 pub data Node : Type 0 where
   Directory : Node
   IsFile : File → Node
@@ -26,11 +28,13 @@ pub data Node : Type 0 where
 abbrev pub NodeRow : Type 0
 NodeRow = Path × Node
 
+-- a mount
 pub record MountRow : Type 0 where
   pub path : Path
   pub store : ℕ
   pub key : Prefix
 
+-- a pending plan; the leaves are the files of a Remove
 pub record PlanRow : Type 0 where
   pub number : ℕ
   pub kind : PlanKind
@@ -38,6 +42,7 @@ pub record PlanRow : Type 0 where
   pub to : Path
   pub leaves : List Path
 
+-- a lock of a plan, Write or Read
 pub record LockRow : Type 0 where
   pub plan : ℕ
   pub path : Path
@@ -55,6 +60,7 @@ pub record Names : Type 0 where
 
 -- ---- workers
 
+-- a copy of a block at a worker
 pub record Copied : Type 0 where
   pub number : ℕ
   pub tier : ℕ
@@ -65,6 +71,7 @@ pub record Copied : Type 0 where
   pub pin : Bool
   pub free : Bool
 
+-- bytes that are reserved at a tier
 pub record RoomRow : Type 0 where
   pub number : ℕ
   pub tier : ℕ
@@ -93,6 +100,7 @@ pub record Hold : Type 0 where
   pub start : ℕ
   pub number : ℕ
 
+-- where a reader reads from: a worker and its tier, or a store
 pub data Source : Type 0 where
   AtWorker : ℕ → ℕ → Source
   AtStore : ℕ → Source
@@ -104,6 +112,7 @@ pub record Cache : Type 0 where
   pub promoted : Option ℕ
   pub spoiled : Bool
 
+-- a stream over a file, with the file's bytes
 pub record Stream : Type 0 where
   pub file : ℕ
   pub bs : ℕ
@@ -131,6 +140,7 @@ pub record Writer : Type 0 where
   pub block : Option OpenBlock
   pub broken : Bool
 
+-- a mover of a copy to another tier
 pub record Mover : Type 0 where
   pub held : Hold
   pub tier : ℕ
@@ -149,12 +159,14 @@ pub record JobHand : Type 0 where
   pub source : Option Source
   pub broken : Bool
 
+-- what an actor has under a label
 pub data Hand : Type 0 where
   Reading : Stream → Hand
   Writing : Writer → Hand
   Moving : Mover → Hand
   Storing : JobHand → Hand
 
+-- a label with what is under it
 pub record LabelRow : Type 0 where
   pub label : Label
   pub hand : Hand
@@ -172,10 +184,12 @@ pub record HoldRow : Type 0 where
 
 -- ---- stores and the rest
 
+-- an object that no pending Publish waits for
 pub record Parked : Type 0 where
   pub plan : ℕ
   pub bytes : List ℕ
 
+-- an object that belongs to no file
 pub record Stray : Type 0 where
   pub key : Prefix
   pub bytes : List ℕ
@@ -185,6 +199,7 @@ pub record StoreRows : Type 0 where
   pub parked : List Parked
   pub strays : List Stray
 
+-- the bytes of a done file
 pub record Content : Type 0 where
   pub file : ℕ
   pub bytes : List ℕ
@@ -195,10 +210,12 @@ pub record Progress : Type 0 where
   pub steps : ℕ
   pub reached : Option Prefix
 
+-- what a stopped master doesn't know: whether a change, with the bytes of a finished file, or a checkpoint was kept
 pub data Doubt : Type 0 where
   InChange : Change → List ℕ → Doubt
   InCheckpoint : Doubt
 
+-- the master's own numbers
 pub record Master : Type 0 where
   pub up : Bool
   pub gate : ℕ
@@ -206,6 +223,7 @@ pub record Master : Type 0 where
   pub doubt : Option Doubt
   pub fuse : Option ℕ
 
+-- all that the actors share
 pub record State : Type 0 where
   pub names : Names
   pub contents : List Content

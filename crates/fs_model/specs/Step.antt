@@ -21,6 +21,7 @@ use Rattle.fs_model.specs.Machine.{refusal, accepted, idle_body, idle_hands, han
 
 -- ---- what the machine may choose
 
+-- the worker at which a stream caches
 abbrev pub cache_worker : Stream → ℕ
 cache_worker s = elim s.cache [ None ↦ s.worker | Some c ↦ c.room.worker ]
 
@@ -36,6 +37,7 @@ device_choices r k (Hand.Writing w) = k.settles && k.caches && not k.spoils
 device_choices r k (Hand.Moving m) = k.settles && k.caches && not k.spoils
 device_choices r k (Hand.Storing j) = k.settles && k.caches && not k.spoils
 
+-- the same of a label, if there is one
 abbrev pub label_choices : Rise → Choices → Option Hand → Bool
 label_choices r k None = true
 label_choices r k (Some h) = device_choices r k h
@@ -44,6 +46,7 @@ label_choices r k (Some h) = device_choices r k h
 abbrev pub amount_choice : ℕ → ℕ → Bool
 amount_choice n upper = nat_eq upper 0 || (nat_le 1 n && nat_le n upper)
 
+-- the machine may choose so in this event
 abbrev pub may_choose : Setup → State → Hands → Event → Rise → Choices → Bool
 may_choose S A H (Event.Poll l max) r k = label_choices r k (hand_at H l) && elim (stream_at H l) [ None ↦ true | Some s ↦ amount_choice k.amount (most s.bs (length s.bytes) s.at max) ]
 may_choose S A H (Event.Copy l) r k = elim (unbroken_at H l) [ None ↦ true | Some h ↦ amount_choice k.amount (most_copied S h) ]
@@ -60,10 +63,12 @@ waiting_hand spoils (Hand.Writing w) = Hand.Writing w
 waiting_hand spoils (Hand.Moving m) = Hand.Moving m
 waiting_hand spoils (Hand.Storing j) = Hand.Storing j
 
+-- the labels after a reader wasn't ready
 abbrev pub waited_by : Bool → Hands → Label → Option Hand → Hands
 waited_by spoils H l None = H
 waited_by spoils H l (Some h) = set_hand l (waiting_hand spoils h) H
 
+-- the labels after an event that wasn't ready
 abbrev pub waited : Choices → Hands → Event → Hands
 waited k H (Event.Poll l max) = waited_by k.spoils H l (hand_at H l)
 waited k H e = H
@@ -75,6 +80,7 @@ reads_on (Hand.Writing w) = false
 reads_on (Hand.Moving m) = nat_lt m.copied m.len
 reads_on (Hand.Storing j) = is_some j.source
 
+-- the event may answer that its reader isn't ready
 abbrev pub may_wait : Hands → Event → Rise → Choices → Bool
 may_wait H (Event.Poll l max) r k = nat_lt 0 r.waits && by_hand (λ h. reads_on h && device_choices r k h) (unbroken_at H l)
 may_wait H (Event.Copy l) r k = nat_lt 0 r.waits && by_hand reads_on (unbroken_at H l)
@@ -96,6 +102,7 @@ unrecovered A = stopped_with A.master.doubt None A
 
 -- ---- want of memory
 
+-- the event is a Restart
 abbrev pub is_restart : Event → Bool
 is_restart Event.Restart = true
 is_restart e = false

@@ -17,12 +17,15 @@ use Rattle.fs_model.specs.Changes.{entry_len}
 abbrev pub refuse : Refusal → Bool → Option Reply
 refuse r b = Reply.Refused r when b
 
+-- the master is stopped
 abbrev pub stopped : State → Option Reply
 stopped A = refuse Stopped (not A.master.up)
 
+-- a lock is in the way of the path
 abbrev pub touch : State → Path → Touch → Option Reply
 touch A p t = option_map (λ n. Reply.Refused (Busy n)) (busy A.names p t)
 
+-- the refusal of a walk that led to no node
 abbrev pub walk_fault : Walk → Option Reply
 walk_fault (Walk.Found n) = None
 walk_fault Walk.Absent = Some (Reply.Refused NotFound)
@@ -36,6 +39,7 @@ along A p = walk_fault (walk_nodes A.names.nodes p)
 abbrev pub along_new : State → Path → Option Reply
 along_new A p = walk_fault (walk_above A.names.nodes p)
 
+-- the actor has the label already
 abbrev pub label_taken : Hands → Label → Option Reply
 label_taken H l = refuse BadLabel (has_label H l)
 
@@ -43,32 +47,41 @@ label_taken H l = refuse BadLabel (has_label H l)
 abbrev pub not_configured : Setup → ℕ → Option Reply
 not_configured S w = refuse (NoWorker w) (not (is_configured S w))
 
+-- the worker, if one is named, isn't configured
 abbrev pub not_configured_if_any : Setup → ℕ → Option Reply
 not_configured_if_any S w = refuse (NoWorker w) (not (nat_eq w 0) && not (is_configured S w))
 
+-- the worker isn't live
 abbrev pub not_live : State → ℕ → Option Reply
 not_live A w = refuse (NoWorker w) (not (is_live A w))
 
 -- ---- limits
 
+-- a limit is passed
 abbrev pub past : Which → Bool → Option Reply
 past w b = refuse (Limit w) b
 
+-- so many nodes more are too many
 abbrev pub past_nodes : State → ℕ → Option Reply
 past_nodes A n = past Which.Nodes (nat_lt 1048576 (length A.names.nodes + n))
 
+-- the actor has all labels that it may have
 abbrev pub past_labels : Hands → Option Reply
 past_labels H = past Which.Labels (nat_le 64 (length H))
 
+-- there are all plans that there may be
 abbrev pub past_plans : State → Option Reply
 past_plans A = past Which.Plans (nat_le 1024 (length A.names.plans))
 
+-- the next number stands at its limit
 abbrev pub past_ids : ℕ → Option Reply
 past_ids n = past Which.Ids (nat_le (2 ^ 63) n)
 
+-- an entry of this length finds no room in the area
 abbrev pub past_area_by : Setup → State → ℕ → Option Reply
 past_area_by S A len = past Which.Area (nat_lt S.area (A.master.gate + 2 + len))
 
+-- the entry of a change, if there is one, finds no room in the area
 abbrev pub past_area : Setup → State → Option Change → Option Reply
 past_area S A None = None
 past_area S A (Some c) = past_area_by S A (entry_len c)

@@ -18,6 +18,7 @@ under p [] = true
 under [] (y ∷ ys) = false
 under (x ∷ xs) (y ∷ ys) = name_eq x y && under xs ys
 
+-- paths are equal name by name
 abbrev pub path_eq : Path → Path → Bool
 path_eq [] [] = true
 path_eq [] (y ∷ ys) = false
@@ -33,9 +34,11 @@ parts (x ∷ xs) = [] ∷ map (λ p. x ∷ p) (parts xs)
 abbrev pub name_cmp : Name → Name → Ordering
 name_cmp = slice_cmp nat_cmp
 
+-- paths are ordered as lists of names
 abbrev pub path_cmp : Path → Path → Ordering
 path_cmp = slice_cmp name_cmp
 
+-- p stands before q
 abbrev pub path_lt : Path → Path → Bool
 path_lt p q = is_lt (path_cmp p q)
 
@@ -61,6 +64,7 @@ abbrev pub ◌when◌ : {X : Type 0} → X → Bool → Option X
 r when true = Some r
 r when false = None
 
+-- the answers that are there
 abbrev pub option_list : {X : Type 0} → List (Option X) → List X
 option_list [] = []
 option_list (Some x ∷ xs) = x ∷ option_list xs
@@ -70,6 +74,7 @@ option_list (None ∷ xs) = option_list xs
 abbrev pub update_where : {X : Type 0} → (X → Bool) → (X → X) → List X → List X
 update_where test change xs = map (λ x. cond (test x) (change x) x) xs
 
+-- the element at this place is changed
 abbrev pub update_at : {X : Type 0} → ℕ → X → (X → X) → List X → List X
 update_at i d change xs = set xs i (change (get_or xs i d))
 
