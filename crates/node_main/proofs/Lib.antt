@@ -1,0 +1,5 @@
+pub mod Steps
+pub mod Begin
+pub mod Runs
+pub mod Built
+pub mod Finishing

@@ -1,0 +1,163 @@
+-- How a run ends: its status, its last line, and what each end says.
+use Rattle.std.specs.Prelude.{ℕ, ◌≡◌, ◌⊎◌, ◌<◌, length, nat_lt, take, ⊤, List, [], ◌∷◌, ◌++◌, codes, IsSomeAnd, IsTrue, Result, Ok, Err, Option, Some, None, if◌then◌else◌}
+use Rattle.std.specs.Fmt.{decimal}
+use Rattle.fs_model.specs.State.{Whole}
+use Rattle.fs_model.specs.Begins.{Begins}
+use Rattle.fs_model.specs.Examples.{two_workers}
+use Rattle.outside.specs.Inputs.{named, is_missed}
+use Rattle.outside.specs.Streams.{Takes}
+use Rattle.script_text.specs.declared.script.Command.{Command}
+use Rattle.script_text.specs.declared.read.ScriptFault.{ScriptFault}
+use Rattle.script_text.specs.declared.read.ScriptFault.TheVariants.{BadLine, Memory}
+use Rattle.script_text.specs.ScriptText.{read_script}
+use Rattle.node_main.specs.declared.run.End.{End}
+use Rattle.node_main.specs.declared.run.End.TheVariants as ends
+use Rattle.node_main.specs.declared.run.TheConstants.{LIMIT}
+use Rattle.node_main.specs.Play.{Tells, TellsFront, TellsPartly}
+use Rattle.node_main.specs.Words.{play_words}
+
+-- what a world holds under each name
+abbrev pub Held : Type 0
+Held = List ℕ → Option (List ℕ)
+
+-- the line that tells an end: none after the whole script, and none where the sink failed
+abbrev pub end_text : End → List ℕ
+end_text ends.Done = []
+end_text ends.BadWords = codes "stopped 2 BadWords\n"
+end_text (ends.BadScript line) = codes "stopped 4 BadScript " ++ decimal line ++ 10 ∷ []
+end_text ends.ReadFault = codes "stopped 5 ReadFault\n"
+end_text ends.WriteFault = []
+end_text ends.Memory = codes "stopped 8 Memory\n"
+end_text ends.TooLong = codes "stopped 9 TooLong\n"
+end_text ends.OpenFault = codes "stopped 10 OpenFault\n"
+
+abbrev pub status_of : End → ℕ
+status_of ends.Done = 0
+status_of ends.BadWords = 2
+status_of (ends.BadScript line) = 4
+status_of ends.ReadFault = 5
+status_of ends.WriteFault = 6
+status_of ends.Memory = 8
+status_of ends.TooLong = 9
+status_of ends.OpenFault = 10
+
+-- ---- the end that is due where nothing fails
+
+abbrev pub end_of_reading : Result (List Command) ScriptFault → End
+end_of_reading (Ok commands) = ends.Done
+end_of_reading (Err (BadLine line)) = ends.BadScript line
+end_of_reading (Err Memory) = ends.Memory
+
+abbrev pub end_of_text : Option (List ℕ) → End
+end_of_text None = ends.OpenFault
+end_of_text (Some text) = if nat_lt LIMIT (length text) then ends.TooLong else end_of_reading (read_script text)
+
+abbrev pub end_of_names : Held → Option (List ℕ × List ℕ) → End
+end_of_names held None = ends.BadWords
+end_of_names held (Some names) = if is_missed (Some held) names.0 names.1 then ends.OpenFault else end_of_text (named held names.1)
+
+-- words of no form are bad; a name that isn't held can't be opened; a script is too long, or its first line that is none is bad; else it is played
+abbrev pub due_end : Held → List (List ℕ) → End
+due_end held words = end_of_names held (play_words words)
+
+-- the end is the one that is due, or want of memory, or a fault whose count rose: the world's, the script's input's, the sink's
+abbrev pub IsDue : Held → List (List ℕ) → Type 0 → Type 0 → Type 0 → End → Type 0
+IsDue held words world_rose input_rose sink_rose end =
+    (end ≡ due_end held words) ⊎ (end ≡ ends.Memory) ⊎ ((end ≡ ends.OpenFault) × world_rose) ⊎ ((end ≡ ends.ReadFault) × input_rose) ⊎ ((end ≡ ends.WriteFault) × sink_rose)
+
+-- ---- what was played
+
+-- P holds of the text under the name, where the world tells what it holds
+abbrev pub Holds : Option Held → List ℕ → (List ℕ → Type 0) → Type 0
+Holds None name P = ⊤
+Holds (Some held) name P = IsSomeAnd (named held name) P
+
+-- the text under the name is that of these commands
+abbrev pub IsScript : Option Held → List ℕ → List Command → Type 0
+IsScript held name commands = Holds held name (λ text. read_script text ≡ Ok commands)
+
+-- the first line under the name that is none of a script
+abbrev pub IsBadAt : Option Held → List ℕ → ℕ → Type 0
+IsBadAt held name line = Holds held name (λ text. read_script text ≡ Err (BadLine line))
+
+-- more than so many bytes are under the name
+abbrev pub IsLonger : Option Held → List ℕ → ℕ → Type 0
+IsLonger held name limit = Holds held name (λ text. limit < length text)
+
+-- commands of such a script were played to their end, over the example's configuration
+pub record Plays (is_script : List Command → Type 0) (before after : Option (List ℕ)) : Type 0 where
+  pub commands : List Command
+  pub script : is_script commands
+  pub lines : (old : Whole) → Begins two_workers old → Tells two_workers commands old before after
+
+-- the first of them were played
+pub record PlaysFront (is_script : List Command → Type 0) (before after : Option (List ℕ)) : Type 0 where
+  pub commands : List Command
+  pub script : is_script commands
+  pub lines : (old : Whole) → Begins two_workers old → TellsFront two_workers commands old before after
+
+-- and a front of their lines' text was taken
+pub record PlaysPartly (is_script : List Command → Type 0) (before after : Option (List ℕ)) : Type 0 where
+  pub commands : List Command
+  pub script : is_script commands
+  pub lines : (old : Whole) → Begins two_workers old → TellsPartly two_workers commands old before after
+
+-- nothing was taken yet, or the lines of the first commands were
+abbrev pub BeforeStop : Option Held → List (List ℕ) → Option (List ℕ) → Option (List ℕ) → Type 0
+BeforeStop held words before after = (after ≡ before) ⊎ IsSomeAnd (play_words words) (λ names. PlaysFront (IsScript held names.1) before after)
+
+-- nothing, or the first lines, and then the line of this end
+pub record Stops (held : Option Held) (words : List (List ℕ)) (end : End) (before after : Option (List ℕ)) : Type 0 where
+  pub between : Option (List ℕ)
+  pub lines : BeforeStop held words before between
+  pub stop : Takes between after (end_text end)
+
+-- nothing, or the first lines, and then a front of the line of some end
+pub record StopsPartly (held : Option Held) (words : List (List ℕ)) (before after : Option (List ℕ)) : Type 0 where
+  pub between : Option (List ℕ)
+  pub lines : BeforeStop held words before between
+  pub end : End
+  pub bytes : ℕ
+  pub stop : Takes between after (take bytes (end_text end))
+
+-- a front of the lines, or the first lines and a front of the line of an end
+abbrev pub WritesPartly : Option Held → List (List ℕ) → Option (List ℕ) → Option (List ℕ) → Type 0
+WritesPartly held words before after = IsSomeAnd (play_words words) (λ names. PlaysPartly (IsScript held names.1) before after) ⊎ StopsPartly held words before after
+
+-- ---- what each end says
+
+-- why a run ends before its script is played
+abbrev pub Cause : Option Held → List (List ℕ) → Type 0 → Type 0 → End → Type 0
+Cause held words world_rose input_rose ends.Done = ⊥
+Cause held words world_rose input_rose ends.BadWords = play_words words ≡ None
+Cause held words world_rose input_rose (ends.BadScript line) = IsSomeAnd (play_words words) (λ names. IsBadAt held names.1 line)
+Cause held words world_rose input_rose ends.ReadFault = input_rose
+Cause held words world_rose input_rose ends.WriteFault = ⊥
+Cause held words world_rose input_rose ends.Memory = ⊤
+Cause held words world_rose input_rose ends.TooLong = IsSomeAnd (play_words words) (λ names. IsLonger held names.1 LIMIT)
+Cause held words world_rose input_rose ends.OpenFault = IsSomeAnd (play_words words) (λ names. world_rose ⊎ IsTrue (is_missed held names.0 names.1))
+
+-- before the line of the end is told: its cause, and what the sink took
+abbrev pub Attempted : Option Held → List (List ℕ) → Option (List ℕ) → Option (List ℕ) → Type 0 → Type 0 → Type 0 → End → Type 0
+Attempted held words before after world_rose input_rose sink_rose ends.Done = IsSomeAnd (play_words words) (λ names. Plays (IsScript held names.1) before after)
+Attempted held words before after world_rose input_rose sink_rose ends.WriteFault = sink_rose × IsSomeAnd (play_words words) (λ names. PlaysPartly (IsScript held names.1) before after)
+Attempted held words before after world_rose input_rose sink_rose ends.Memory = BeforeStop held words before after
+Attempted held words before after world_rose input_rose sink_rose end = Cause held words world_rose input_rose end × (after ≡ before)
+
+-- at the end: its cause, and what the sink took
+abbrev pub Ended : Option Held → List (List ℕ) → Option (List ℕ) → Option (List ℕ) → Type 0 → Type 0 → Type 0 → End → Type 0
+Ended held words before after world_rose input_rose sink_rose ends.Done = IsSomeAnd (play_words words) (λ names. Plays (IsScript held names.1) before after)
+Ended held words before after world_rose input_rose sink_rose ends.WriteFault = sink_rose × WritesPartly held words before after
+Ended held words before after world_rose input_rose sink_rose ends.Memory = Stops held words ends.Memory before after
+Ended held words before after world_rose input_rose sink_rose end = Cause held words world_rose input_rose end × Takes before after (end_text end)
+
+-- ---- telling the line of an end
+
+-- the line was told, or a front of it
+pub data ToldAs (end : End) (before after : Option (List ℕ)) (sink_rose : Type 0) : End → Type 0 where
+  Told : Takes before after (end_text end) → ToldAs end before after sink_rose end
+  Partly : (bytes : ℕ) → Takes before after (take bytes (end_text end)) → sink_rose → ToldAs end before after sink_rose ends.WriteFault
+
+-- the line of this end was told, or that of want of memory
+abbrev pub FinishedAs : End → Option (List ℕ) → Option (List ℕ) → Type 0 → End → Type 0
+FinishedAs end before after sink_rose result = ToldAs end before after sink_rose result ⊎ ToldAs ends.Memory before after sink_rose result

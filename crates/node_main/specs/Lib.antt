@@ -1,0 +1,5 @@
+pub mod Stands
+pub mod Tests
+pub mod Play
+pub mod Words
+pub mod Ends

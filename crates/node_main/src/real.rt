@@ -1,0 +1,192 @@
+//! Files as inputs, and an output, as the system has them. None of them tells what it holds or took.
+
+ghost use Rattle.std.specs.Prelude.{◌≡◌, ◌≤◌, None, refl};
+ghost use Rattle.outside.specs.Causes.{Rose};
+
+use outside::stream::{Fault, Sink, Source};
+use outside::world::{Fail, World};
+use std::fs;
+use std::io::{Read, Write};
+use std::rt::Files;
+
+/// The count after one more failure; it stays at its last value.
+fn counted(faults: u64) -> u64
+    ensures { Rose faults result }
+{
+    faults.saturating_add(1)
+}
+
+/// A file that is read, or an input that holds nothing.
+#[derive(Drop)]
+pub struct FileSource<F: Read + Drop> {
+    file: Option<F>,
+    faults: u64,
+}
+
+impl<F: Read + Drop> Source for FileSource<F> {
+    ghost left = { λ _. None };
+
+    ghost faults = { λ s. s.faults };
+
+    fn pull(&mut self, buf: &mut [u8]) -> Result<usize, Fault> {
+        match &mut self.file {
+            None => Ok(0),
+            Some(file) => match file.read(buf) {
+                Ok(count) => Ok(count),
+                Err(_) => {
+                    self.faults = counted(self.faults);
+                    Err(Fault)
+                }
+            },
+        }
+    }
+}
+
+/// An output, of which each push is one write.
+#[derive(Drop)]
+pub struct OutSink<W: Write + Drop> {
+    out: W,
+    faults: u64,
+}
+
+impl<W: Write + Drop> OutSink<W> {
+    /// A sink over the output, with nothing failed yet.
+    pub fn new(out: W) -> OutSink<W>
+        ensures { result.faults ≡ 0 }
+    {
+        OutSink { out, faults: 0 }
+    }
+}
+
+impl<W: Write + Drop> Sink for OutSink<W> {
+    ghost taken = { λ _. None };
+
+    ghost faults = { λ s. s.faults };
+
+    fn push(&mut self, piece: &[u8]) -> Result<usize, Fault> {
+        match self.out.write(piece) {
+            Ok(0) | Err(_) => {
+                self.faults = counted(self.faults);
+                Err(Fault)
+            }
+            Ok(count) => Ok(count),
+        }
+    }
+}
+
+/// The files of the system as inputs, and an output.
+#[derive(Drop)]
+pub struct RealWorld<R: Files + Drop, W: Write + Drop>
+where
+    R::File: Drop,
+{
+    rt: R,
+    config: FileSource<R::File>,
+    script: FileSource<R::File>,
+    out: OutSink<W>,
+    faults: u64,
+}
+
+impl<R: Files + Drop, W: Write + Drop> RealWorld<R, W>
+where
+    R::File: Drop,
+{
+    /// The world with no input open.
+    pub fn new(rt: R, out: W) -> Self {
+        RealWorld {
+            rt,
+            config: FileSource {
+                file: None,
+                faults: 0,
+            },
+            script: FileSource {
+                file: None,
+                faults: 0,
+            },
+            out: OutSink::new(out),
+            faults: 0,
+        }
+    }
+}
+
+/// Opens the file of a name; an empty name stands for none.
+fn open<R: Files>(rt: &R, name: &str) -> Result<Option<R::File>, Fault> {
+    if name.is_empty() {
+        return Ok(None);
+    }
+    match fs::open(rt, name) {
+        Ok(file) => Ok(Some(file)),
+        Err(_) => Err(Fault),
+    }
+}
+
+impl<R: Files + Drop, W: Write + Drop> World for RealWorld<R, W>
+where
+    R::File: Drop,
+{
+    type In = FileSource<R::File>;
+
+    type Out = OutSink<W>;
+
+    ghost held = { λ _. None };
+
+    ghost config_input = { λ w. w.config };
+
+    ghost script_input = { λ w. w.script };
+
+    ghost with_script_input = { λ w i. record w { script = i } };
+
+    ghost output = { λ w. w.out };
+
+    ghost with_output = { λ w o. record w { out = o } };
+
+    ghost faults = { λ w. w.faults };
+
+    ghost misses = { λ _. 0 };
+
+    fn choose(&mut self, config: &str, script: &str) -> Result<(), Fail> {
+        let Ok(config) = open(&self.rt, config) else {
+            self.faults = counted(self.faults);
+            return Err(Fail::Failed);
+        };
+        let Ok(script) = open(&self.rt, script) else {
+            self.faults = counted(self.faults);
+            return Err(Fail::Failed);
+        };
+        self.config.file = config;
+        self.script.file = script;
+        Ok(())
+    }
+
+    fn script(&mut self) -> &mut FileSource<R::File> {
+        &mut self.script
+    }
+
+    fn out(&mut self) -> &mut OutSink<W> {
+        &mut self.out
+    }
+
+    ghost script_set = { λ w i. refl };
+
+    ghost script_keeps_held = { λ w i. refl };
+
+    ghost script_keeps_config = { λ w i. refl };
+
+    ghost script_keeps_output = { λ w i. refl };
+
+    ghost script_keeps_faults = { λ w i. refl };
+
+    ghost script_keeps_misses = { λ w i. refl };
+
+    ghost output_set = { λ w o. refl };
+
+    ghost output_keeps_held = { λ w o. refl };
+
+    ghost output_keeps_config = { λ w o. refl };
+
+    ghost output_keeps_script = { λ w o. refl };
+
+    ghost output_keeps_faults = { λ w o. refl };
+
+    ghost output_keeps_misses = { λ w o. refl };
+}

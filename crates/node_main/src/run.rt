@@ -1,0 +1,342 @@
+//! The whole program over a world.
+
+ghost use Rattle.std.specs.Prelude.{◌≡◌, ◌≢◌, ◌≤◌, ◌<◌, ◌+◌, ◌⊎◌, ℕ, List, true, IfOk, IfErr, IfSome, IsSomeAnd, IsTrue, OnOk, OnErr, Ok, Err, None, option_map, map, length, take};
+ghost use Rattle.std.specs.String.{string_bytes};
+ghost use Rattle.std.specs.List.{list_all};
+ghost use Rattle.fs_model.specs.State.{Whole};
+ghost use Rattle.fs_model.specs.Begins.{Begins};
+ghost use Rattle.fs_model.specs.Examples.{two_workers};
+ghost use Rattle.outside.specs.Causes.{Rose};
+ghost use Rattle.outside.specs.Streams.{Gives, GivesAll, Takes};
+ghost use Rattle.outside.specs.Inputs.{is_missed};
+ghost use Rattle.script_text.specs.ScriptText.{read_script};
+ghost use Rattle.script_text.specs.Commands.{is_command};
+ghost use Rattle.script_text.specs.declared.read.ScriptFault.TheVariants.{BadLine};
+ghost use Rattle.node_main.specs.Words.{is_file_word, play_words};
+ghost use Rattle.node_main.specs.Ends.{Attempted, Ended, FinishedAs, Holds, IsBadAt, IsDue, IsLonger, IsScript, Plays, PlaysFront, PlaysPartly, Stops, ToldAs, WritesPartly, end_of_reading, end_text, status_of};
+
+use crate::play::play;
+use fs_model::items::Items;
+use fs_model::setup::Setup;
+use fs_model::stop::Stop;
+use outside::stream::{Fault, ReadStop, Sink, Source, push_all, read_all};
+use outside::world::{Fail, World};
+use script_text::read::{ScriptFault, read_script};
+use script_text::script::Script;
+use std::alloc::{AllocError, Global};
+
+/// The most bytes of a script: 16 MiB.
+pub const LIMIT: usize = 16_777_216;
+
+/// How a run ends.
+#[derive(Debug, Clone, Copy, PartialEq, Eq)]
+pub enum End {
+    /// The script was read and played to its end.
+    Done,
+    /// The words are not those of a command.
+    BadWords,
+    /// The line of this number, from 1, is the first that is no script line.
+    BadScript(u32),
+    /// An input failed.
+    ReadFault,
+    /// The sink failed.
+    WriteFault,
+    /// Want of memory.
+    Memory,
+    /// The script has more than 16 MiB.
+    TooLong,
+    /// An input could not be opened.
+    OpenFault,
+}
+
+/// Whether the word can be the name of a file.
+fn is_file_word(word: &str) -> bool
+    ensures { result ≡ is_file_word word.now }
+{
+    match word.as_bytes() {
+        [] => false,
+        [first, ..] => *first != b'-',
+    }
+}
+
+/// The names of the configuration and of the script, where the words are `play CONFIG SCRIPT`.
+fn play_words(words: &[String]) -> Option<(&str, &str)>
+    ensures { option_map (λ names. (names.0.now, names.1.now)) result ≡ play_words (map string_bytes words.now) }
+{
+    let [verb, config, script] = words else {
+        return None;
+    };
+    if verb.as_str() != "play" {
+        return None;
+    }
+    if !is_file_word(config.as_str()) {
+        return None;
+    }
+    if !is_file_word(script.as_str()) {
+        return None;
+    }
+    Some((config.as_str(), script.as_str()))
+}
+
+/// The sizes of a worker's tiers.
+fn tier_sizes(alloc: Global, sizes: &[u64]) -> Result<Items<u64>, AllocError>
+    ensures { IfOk result (λ tiers. tiers ≡ sizes.now) }
+{
+    Ok(Items::from_vec(Vec::from_slice(alloc, sizes)?))
+}
+
+/// The numbers of `examples/small.toml`, which stand in place of the configuration until its text is read.
+fn example_setup(alloc: Global) -> Result<Setup, AllocError>
+    ensures { IfOk result (λ setup. setup ≡ two_workers) }
+{
+    let mut tiers = Vec::new(alloc);
+    tiers.push(tier_sizes(alloc, &[8, 8])?)?;
+    tiers.push(tier_sizes(alloc, &[8])?)?;
+    Ok(Setup {
+        block: 4,
+        patience: 3,
+        area: 1_073_741_824,
+        root: Items::from_vec(Vec::new(alloc)),
+        stores: 2,
+        tiers: Items::from_vec(tiers),
+    })
+}
+
+/// Reads the script's input to its end.
+fn read_input<W: World>(alloc: Global, world: &mut W) -> Result<Vec<u8>, ReadStop>
+    ensures whole { IfOk result (λ text. GivesAll (W.In.left (W.script_input world.old)) (W.In.left (W.script_input world.new)) text.items) }
+    ensures short { IfOk result (λ text. length text.items ≤ LIMIT) }
+    ensures long { result ≡ Err ReadStop.TooLong → (bytes : List ℕ) × (length bytes ≡ LIMIT + 1) × Gives (W.In.left (W.script_input world.old)) (W.In.left (W.script_input world.new)) bytes }
+    ensures cause { result ≡ Err ReadStop.Fault → Rose (W.In.faults (W.script_input world.old)) (W.In.faults (W.script_input world.new)) }
+    ensures later { W.In.faults (W.script_input world.old) ≤ W.In.faults (W.script_input world.new) }
+    ensures output { W.output world.new ≡ W.output world.old }
+    ensures held { W.held world.new ≡ W.held world.old }
+    ensures faults { W.faults world.new ≡ W.faults world.old }
+{
+    read_all(alloc, world.script(), LIMIT)
+}
+
+/// Opens the inputs, and reads the script's text.
+fn fetch<W: World>(alloc: Global, config: &str, script: &str, world: &mut W) -> Result<Vec<u8>, End>
+    ensures text { IfOk result (λ text. Holds (W.held world.old) script.now (λ held. text.items ≡ held)) }
+    ensures short { IfOk result (λ text. length text.items ≤ LIMIT) }
+    ensures met { OnOk result (IsTrue (is_missed (W.held world.old) config.now script.now) → ⊥) }
+    ensures open { result ≡ Err End.OpenFault → Rose (W.faults world.old) (W.faults world.new) ⊎ IsTrue (is_missed (W.held world.old) config.now script.now) }
+    ensures read { result ≡ Err End.ReadFault → Rose (W.In.faults (W.script_input world.old)) (W.In.faults (W.script_input world.new)) }
+    ensures long { result ≡ Err End.TooLong → IsLonger (W.held world.old) script.now LIMIT × (IsTrue (is_missed (W.held world.old) config.now script.now) → ⊥) }
+    ensures ends { IfErr result (λ end. (end ≡ End.OpenFault) ⊎ (end ≡ End.ReadFault) ⊎ (end ≡ End.TooLong) ⊎ (end ≡ End.Memory)) }
+    ensures world_later { W.faults world.old ≤ W.faults world.new }
+    ensures input_later { W.In.faults (W.script_input world.old) ≤ W.In.faults (W.script_input world.new) }
+    ensures output { W.output world.new ≡ W.output world.old }
+    ensures held { W.held world.new ≡ W.held world.old }
+{
+    match world.choose(config, script) {
+        Ok(()) => {}
+        Err(Fail::Failed) => return Err(End::OpenFault),
+        Err(Fail::Memory) => return Err(End::Memory),
+    }
+    match read_input(alloc, world) {
+        Ok(text) => Ok(text),
+        Err(ReadStop::Fault) => Err(End::ReadFault),
+        Err(ReadStop::TooLong) => Err(End::TooLong),
+        Err(ReadStop::Memory) => Err(End::Memory),
+    }
+}
+
+/// Plays the script of a text over a fresh journal.
+fn play_script<W: World>(alloc: Global, script: &Script, world: &mut W) -> End
+    requires { list_all is_command script.now ≡ true }
+    ensures done { result ≡ End.Done → Plays (λ commands. commands ≡ script.now) (W.Out.taken (W.output world.old)) (W.Out.taken (W.output world.new)) }
+    ensures partly { result ≡ End.WriteFault → PlaysPartly (λ commands. commands ≡ script.now) (W.Out.taken (W.output world.old)) (W.Out.taken (W.output world.new)) }
+    ensures memory { result ≡ End.Memory → PlaysFront (λ commands. commands ≡ script.now) (W.Out.taken (W.output world.old)) (W.Out.taken (W.output world.new)) }
+    ensures write { result ≡ End.WriteFault → Rose (W.Out.faults (W.output world.old)) (W.Out.faults (W.output world.new)) }
+    ensures ends { (result ≡ End.Done) ⊎ (result ≡ End.WriteFault) ⊎ (result ≡ End.Memory) }
+    ensures later { W.Out.faults (W.output world.old) ≤ W.Out.faults (W.output world.new) }
+    ensures input { W.script_input world.new ≡ W.script_input world.old }
+    ensures held { W.held world.new ≡ W.held world.old }
+    ensures faults { W.faults world.new ≡ W.faults world.old }
+{
+    let Ok(setup) = example_setup(alloc) else {
+        return End::Memory;
+    };
+    match play(alloc, &setup, script, world.out()) {
+        Ok(()) => End::Done,
+        Err(Stop::WriteFault) => End::WriteFault,
+        Err(_) => End::Memory,
+    }
+}
+
+/// Reads the script of a text, and plays it.
+fn play_text<W: World>(alloc: Global, text: &[u8], world: &mut W) -> End
+    ensures done { result ≡ End.Done → Plays (λ commands. read_script text.now ≡ Ok commands) (W.Out.taken (W.output world.old)) (W.Out.taken (W.output world.new)) }
+    ensures partly { result ≡ End.WriteFault → PlaysPartly (λ commands. read_script text.now ≡ Ok commands) (W.Out.taken (W.output world.old)) (W.Out.taken (W.output world.new)) }
+    ensures memory { result ≡ End.Memory → (W.Out.taken (W.output world.new) ≡ W.Out.taken (W.output world.old)) ⊎ PlaysFront (λ commands. read_script text.now ≡ Ok commands) (W.Out.taken (W.output world.old)) (W.Out.taken (W.output world.new)) }
+    ensures bad { (line : ℕ) → result ≡ End.BadScript line → (read_script text.now ≡ Err (BadLine line)) × (W.output world.new ≡ W.output world.old) }
+    ensures write { result ≡ End.WriteFault → Rose (W.Out.faults (W.output world.old)) (W.Out.faults (W.output world.new)) }
+    ensures due { (result ≡ end_of_reading (read_script text.now)) ⊎ (result ≡ End.Memory) ⊎ (result ≡ End.WriteFault) }
+    ensures later { W.Out.faults (W.output world.old) ≤ W.Out.faults (W.output world.new) }
+    ensures input { W.script_input world.new ≡ W.script_input world.old }
+    ensures held { W.held world.new ≡ W.held world.old }
+    ensures faults { W.faults world.new ≡ W.faults world.old }
+{
+    match read_script(alloc, text) {
+        Ok(script) => play_script(alloc, &script, world),
+        Err(ScriptFault::BadLine(line)) => End::BadScript(line),
+        Err(ScriptFault::Memory) => End::Memory,
+    }
+}
+
+/// Does what the words ask for. The line of an end that isn't `Done` or `WriteFault` is not told yet.
+fn attempt<W: World>(alloc: Global, words: &[String], world: &mut W) -> End
+    ensures ended { Attempted (W.held world.old) (map string_bytes words.now) (W.Out.taken (W.output world.old)) (W.Out.taken (W.output world.new)) (Rose (W.faults world.old) (W.faults world.new)) (Rose (W.In.faults (W.script_input world.old)) (W.In.faults (W.script_input world.new))) (Rose (W.Out.faults (W.output world.old)) (W.Out.faults (W.output world.new))) result }
+    ensures words { play_words (map string_bytes words.now) ≡ None → result ≡ End.BadWords }
+    ensures due { IfSome (W.held world.old) (λ held. IsDue held (map string_bytes words.now) (Rose (W.faults world.old) (W.faults world.new)) (Rose (W.In.faults (W.script_input world.old)) (W.In.faults (W.script_input world.new))) (Rose (W.Out.faults (W.output world.old)) (W.Out.faults (W.output world.new))) result) }
+    ensures world_later { W.faults world.old ≤ W.faults world.new }
+    ensures input_later { W.In.faults (W.script_input world.old) ≤ W.In.faults (W.script_input world.new) }
+    ensures sink_later { W.Out.faults (W.output world.old) ≤ W.Out.faults (W.output world.new) }
+    ensures held { W.held world.new ≡ W.held world.old }
+{
+    let Some((config, script)) = play_words(words) else {
+        return End::BadWords;
+    };
+    match fetch(alloc, config, script, world) {
+        Ok(text) => play_text(alloc, &text, world),
+        Err(end) => end,
+    }
+}
+
+/// The line of an end.
+fn end_line(alloc: Global, end: End) -> Result<Vec<u8>, AllocError>
+    ensures { IfOk result (λ line. line.items ≡ end_text end) }
+{
+    match end {
+        End::Done | End::WriteFault => Ok(Vec::new(alloc)),
+        End::BadWords => Vec::from_slice(alloc, b"stopped 2 BadWords\n"),
+        End::BadScript(line) => {
+            let mut text = Vec::from_slice(alloc, b"stopped 4 BadScript ")?;
+            text.extend_from_slice(line.to_string(alloc)?.as_bytes())?;
+            text.push(b'\n')?;
+            Ok(text)
+        }
+        End::ReadFault => Vec::from_slice(alloc, b"stopped 5 ReadFault\n"),
+        End::Memory => Vec::from_slice(alloc, b"stopped 8 Memory\n"),
+        End::TooLong => Vec::from_slice(alloc, b"stopped 9 TooLong\n"),
+        End::OpenFault => Vec::from_slice(alloc, b"stopped 10 OpenFault\n"),
+    }
+}
+
+/// The status of an end.
+fn status_of(end: End) -> u8
+    ensures { result ≡ status_of end }
+{
+    match end {
+        End::Done => 0,
+        End::BadWords => 2,
+        End::BadScript(_) => 4,
+        End::ReadFault => 5,
+        End::WriteFault => 6,
+        End::Memory => 8,
+        End::TooLong => 9,
+        End::OpenFault => 10,
+    }
+}
+
+/// Gives a text to the world's output.
+fn give<W: World>(text: &[u8], world: &mut W) -> Result<(), Fault>
+    ensures whole { OnOk result (Takes (W.Out.taken (W.output world.old)) (W.Out.taken (W.output world.new)) text.now) }
+    ensures partly { OnErr result ((bytes : ℕ) × Takes (W.Out.taken (W.output world.old)) (W.Out.taken (W.output world.new)) (take bytes text.now)) }
+    ensures cause { OnErr result (Rose (W.Out.faults (W.output world.old)) (W.Out.faults (W.output world.new))) }
+    ensures input { W.script_input world.new ≡ W.script_input world.old }
+    ensures held { W.held world.new ≡ W.held world.old }
+    ensures faults { W.faults world.new ≡ W.faults world.old }
+    ensures later { W.Out.faults (W.output world.old) ≤ W.Out.faults (W.output world.new) }
+{
+    push_all(world.out(), text)
+}
+
+/// Gives the line of an end to the sink, and answers how the run ended then.
+fn tell_end<W: World>(text: &[u8], end: End, world: &mut W) -> End
+    requires { text.now ≡ end_text end }
+    ensures ends { ToldAs end (W.Out.taken (W.output world.old)) (W.Out.taken (W.output world.new)) (Rose (W.Out.faults (W.output world.old)) (W.Out.faults (W.output world.new))) result }
+    ensures input { W.script_input world.new ≡ W.script_input world.old }
+    ensures held { W.held world.new ≡ W.held world.old }
+    ensures faults { W.faults world.new ≡ W.faults world.old }
+    ensures later { W.Out.faults (W.output world.old) ≤ W.Out.faults (W.output world.new) }
+{
+    match give(text, world) {
+        Ok(()) => end,
+        Err(_) => End::WriteFault,
+    }
+}
+
+/// Tells the line of an end, and answers how the run ended then: so, or by want of memory for the line, which is
+/// then told in its place, or by a fault of the sink.
+fn finish<W: World>(alloc: Global, end: End, world: &mut W) -> End
+    ensures ends { FinishedAs end (W.Out.taken (W.output world.old)) (W.Out.taken (W.output world.new)) (Rose (W.Out.faults (W.output world.old)) (W.Out.faults (W.output world.new))) result }
+    ensures input { W.script_input world.new ≡ W.script_input world.old }
+    ensures held { W.held world.new ≡ W.held world.old }
+    ensures faults { W.faults world.new ≡ W.faults world.old }
+    ensures later { W.Out.faults (W.output world.old) ≤ W.Out.faults (W.output world.new) }
+{
+    match end_line(alloc, end) {
+        Ok(text) => tell_end(&text, end, world),
+        Err(_) => tell_end(b"stopped 8 Memory\n", End::Memory, world),
+    }
+}
+
+/// Does what the words ask for, and tells the line of its end.
+fn run_to_end<W: World>(alloc: Global, words: &[String], world: &mut W) -> End
+    ensures ended { Ended (W.held world.old) (map string_bytes words.now) (W.Out.taken (W.output world.old)) (W.Out.taken (W.output world.new)) (Rose (W.faults world.old) (W.faults world.new)) (Rose (W.In.faults (W.script_input world.old)) (W.In.faults (W.script_input world.new))) (Rose (W.Out.faults (W.output world.old)) (W.Out.faults (W.output world.new))) result }
+    ensures words { play_words (map string_bytes words.now) ≡ None → (result ≡ End.BadWords) ⊎ (result ≡ End.WriteFault) ⊎ (result ≡ End.Memory) }
+    ensures due { IfSome (W.held world.old) (λ held. IsDue held (map string_bytes words.now) (Rose (W.faults world.old) (W.faults world.new)) (Rose (W.In.faults (W.script_input world.old)) (W.In.faults (W.script_input world.new))) (Rose (W.Out.faults (W.output world.old)) (W.Out.faults (W.output world.new))) result) }
+    ensures held { W.held world.new ≡ W.held world.old }
+{
+    match attempt(alloc, words, world) {
+        End::Done => End::Done,
+        End::WriteFault => End::WriteFault,
+        end => finish(alloc, end, world),
+    }
+}
+
+/// Runs the program for the words after its name, over a world, and answers its status. What is promised of the
+/// bytes holds where the world tells them.
+///
+/// | Status | Line | When |
+/// |---|---|---|
+/// | 0 | none | the script was read to its end and the line of each of its events was written |
+/// | 2 | `stopped 2 BadWords` | exactly where the words aren't `play CONFIG SCRIPT`, each name not empty and not beginning with `-` |
+/// | 4 | `stopped 4 BadScript LINE` | exactly where that line is the first that is no script line; nothing was done |
+/// | 5 | `stopped 5 ReadFault` | only where an input failed |
+/// | 6 | none | only where the output failed; it then took a front of the text |
+/// | 8 | `stopped 8 Memory` | want of memory; the lines of the first events may stand before it |
+/// | 9 | `stopped 9 TooLong` | exactly where the script has more than 16 MiB |
+/// | 10 | `stopped 10 OpenFault` | only where opening an input failed, or nothing is held under a name |
+///
+/// Each "exactly where" yields to a fault or want of memory that comes before. The inputs stay as the world holds
+/// them under their names.
+pub fn run<W: World>(alloc: Global, words: &[String], world: &mut W) -> u8
+    // The script that the world holds under its name was played, and its lines are all that was written.
+    ensures done { result ≡ 0 → IsSomeAnd (play_words (map string_bytes words.now)) (λ names. Plays (IsScript (W.held world.old) names.1) (W.Out.taken (W.output world.old)) (W.Out.taken (W.output world.new))) }
+
+    // Words of no form.
+    ensures words { result ≡ 2 → (play_words (map string_bytes words.now) ≡ None) × Takes (W.Out.taken (W.output world.old)) (W.Out.taken (W.output world.new)) (end_text End.BadWords) }
+    ensures words_too { play_words (map string_bytes words.now) ≡ None → (result ≡ 2) ⊎ (result ≡ 6) ⊎ (result ≡ 8) }
+
+    // The first line that is none of a script.
+    ensures bad { result ≡ 4 → (line : ℕ) × IsSomeAnd (play_words (map string_bytes words.now)) (λ names. IsBadAt (W.held world.old) names.1 line) × Takes (W.Out.taken (W.output world.old)) (W.Out.taken (W.output world.new)) (end_text (End.BadScript line)) }
+
+    // A fault comes only where its count rose, or where a name isn't held.
+    ensures read { result ≡ 5 → Rose (W.In.faults (W.script_input world.old)) (W.In.faults (W.script_input world.new)) × Takes (W.Out.taken (W.output world.old)) (W.Out.taken (W.output world.new)) (end_text End.ReadFault) }
+    ensures write { result ≡ 6 → Rose (W.Out.faults (W.output world.old)) (W.Out.faults (W.output world.new)) × WritesPartly (W.held world.old) (map string_bytes words.now) (W.Out.taken (W.output world.old)) (W.Out.taken (W.output world.new)) }
+    ensures open { result ≡ 10 → IsSomeAnd (play_words (map string_bytes words.now)) (λ names. Rose (W.faults world.old) (W.faults world.new) ⊎ IsTrue (is_missed (W.held world.old) names.0 names.1)) × Takes (W.Out.taken (W.output world.old)) (W.Out.taken (W.output world.new)) (end_text End.OpenFault) }
+
+    ensures memory { result ≡ 8 → Stops (W.held world.old) (map string_bytes words.now) End.Memory (W.Out.taken (W.output world.old)) (W.Out.taken (W.output world.new)) }
+    ensures long { result ≡ 9 → IsSomeAnd (play_words (map string_bytes words.now)) (λ names. IsLonger (W.held world.old) names.1 LIMIT) × Takes (W.Out.taken (W.output world.old)) (W.Out.taken (W.output world.new)) (end_text End.TooLong) }
+
+    // Where the world tells, the end is the one that is due by what it holds, or want of memory, or a fault whose count rose.
+    ensures due { IfSome (W.held world.old) (λ held. (end : End) × (result ≡ status_of end) × IsDue held (map string_bytes words.now) (Rose (W.faults world.old) (W.faults world.new)) (Rose (W.In.faults (W.script_input world.old)) (W.In.faults (W.script_input world.new))) (Rose (W.Out.faults (W.output world.old)) (W.Out.faults (W.output world.new))) end) }
+
+    ensures held { W.held world.new ≡ W.held world.old }
+{
+    status_of(run_to_end(alloc, words, world))
+}

@@ -1,0 +1,206 @@
+ghost use Rattle.std.specs.Prelude.{◌≡◌, true};
+ghost use Rattle.fs_model.specs.Spelled.{is_setup};
+
+use crate::play::play;
+use crate::run::run;
+use fs_model::items::Items;
+use fs_model::setup::Setup;
+use outside::memory::{Failing, MemSink, MemWorld};
+use script_text::read::read_script;
+use std::alloc::Global;
+use std::test::Fail;
+
+/// A world that holds an empty configuration `c` and this script `s`.
+fn world_of(alloc: Global, script: &[u8]) -> Result<MemWorld, Fail> {
+    let mut world = MemWorld::new(alloc);
+    world.hold("c", b"")?;
+    world.hold("s", script)?;
+    Ok(world)
+}
+
+/// The words of a text, with one space between them.
+fn words_of(alloc: Global, text: &str) -> Result<Vec<String>, Fail> {
+    let mut words = Vec::new(alloc);
+    for word in text.split(' ') {
+        words.push(String::from_str(alloc, word)?)?;
+    }
+    Ok(words)
+}
+
+/// The status of a play of the script, with what was written.
+fn played(alloc: Global, script: &[u8]) -> Result<(u8, Vec<u8>), Fail> {
+    let mut world = world_of(alloc, script)?;
+    let words = words_of(alloc, "play c s")?;
+    let status = run(alloc, &words, &mut world);
+    let written = Vec::from_slice(alloc, &world.out.bytes)?;
+    Ok((status, written))
+}
+
+#[test]
+fn scripts_end_so(rt: HostRuntime) -> Result<(), Fail> {
+    let alloc = rt.alloc();
+    for (script, status, text) in [
+        ("", 0u8, ""),
+        ("\n# nothing\n\n", 0, ""),
+        (
+            "1 mkdir /a\n1 mkdir /a\n1 mkdir /x/y\n1 ls /\n1 stat /a",
+            0,
+            "1 mkdir /a -> done\n1 mkdir /a -> refused 3 Exists\n1 mkdir /x/y -> refused 2 NotFound\n1 ls / -> names a\n1 stat /a -> stat dir\n",
+        ),
+        (
+            "1 mkdir /b\n2 mkdir /ab\n3 mkdir /a\n64 mkdir /a/c\n1 ls /\n1 ls /a\n1 ls /b\n1 ls /c\n1 stat /\n",
+            0,
+            "1 mkdir /b -> done\n2 mkdir /ab -> done\n3 mkdir /a -> done\n64 mkdir /a/c -> done\n1 ls / -> names a ab b\n1 ls /a -> names c\n1 ls /b -> names\n1 ls /c -> refused 2 NotFound\n1 stat / -> stat dir\n",
+        ),
+        (
+            "1 mkdir /a%2fb\n1 mkdir /a\n1 mkdir /a%2Fb%20c\r\n1 ls /a",
+            0,
+            "1 mkdir /a/b -> refused 2 NotFound\n1 mkdir /a -> done\n1 mkdir /a/b%20c%0D -> done\n1 ls /a -> names b%20c%0D\n",
+        ),
+        ("1 ls /\n0 ls /\n1 ls /", 4, "stopped 4 BadScript 2\n"),
+        ("1 create f /a THROUGH 0", 4, "stopped 4 BadScript 1\n"),
+        ("1 ls /\n1 ls /.tierfs\n", 4, "stopped 4 BadScript 2\n"),
+    ] {
+        let (ended, written) = played(alloc, script.as_bytes())?;
+        assert_eq!(rt; ended, status, "at {script}");
+        assert_eq!(rt; written.as_slice(), text.as_bytes(), "at {script}");
+    }
+    Ok(())
+}
+
+#[test]
+fn words_of_no_form_are_bad(rt: HostRuntime) -> Result<(), Fail> {
+    let alloc = rt.alloc();
+    for text in [
+        "",
+        "play",
+        "play c",
+        "play c s s",
+        "play  s",
+        "play c -s",
+        "storm c s",
+    ] {
+        let mut world = world_of(alloc, b"1 ls /\n")?;
+        let words = words_of(alloc, text)?;
+        assert_eq!(rt; run(alloc, &words, &mut world), 2);
+        assert_eq!(rt;
+            world.out.bytes.as_slice(),
+            b"stopped 2 BadWords\n".as_slice()
+        );
+    }
+    Ok(())
+}
+
+/// A path of 16 names, `last` bytes the last of them, after `1 mkdir `.
+fn long_line(alloc: Global, last: usize) -> Result<Vec<u8>, Fail> {
+    let mut line = Vec::from_slice(alloc, b"1 mkdir ")?;
+    for place in 0..16 {
+        line.push(b'/')?;
+        let bytes = if place == 15 { last } else { 255 };
+        for _ in 0..bytes {
+            line.push(b'n')?;
+        }
+    }
+    Ok(line)
+}
+
+#[test]
+fn paths_have_a_greatest_length(rt: HostRuntime) -> Result<(), Fail> {
+    let alloc = rt.alloc();
+    let (status, written) = played(alloc, &long_line(alloc, 255)?)?;
+    assert_eq!(rt; status, 0);
+    assert!(rt; written.ends_with(b" -> refused 2 NotFound\n"));
+    let mut script = Vec::from_slice(alloc, b"1 ls /\n")?;
+    script.extend_from_slice(&long_line(alloc, 256)?)?;
+    let (status, written) = played(alloc, &script)?;
+    assert_eq!(rt; status, 4);
+    assert_eq!(rt; written.as_slice(), b"stopped 4 BadScript 2\n".as_slice());
+    Ok(())
+}
+
+#[test]
+fn scripts_have_a_greatest_length(rt: HostRuntime) -> Result<(), Fail> {
+    let alloc = rt.alloc();
+    let mut script = vec![in alloc; b'\n'; 1_000_000]?;
+    assert_eq!(rt; played(alloc, &script)?.0, 0);
+    script.push(b'\n')?;
+    let (status, written) = played(alloc, &script)?;
+    assert_eq!(rt; status, 4);
+    assert_eq!(rt;
+        written.as_slice(),
+        b"stopped 4 BadScript 1000001\n".as_slice()
+    );
+    let longest = vec![in alloc; b'#'; 16_777_217]?;
+    let (status, written) = played(alloc, &longest)?;
+    assert_eq!(rt; status, 9);
+    assert_eq!(rt; written.as_slice(), b"stopped 9 TooLong\n".as_slice());
+    Ok(())
+}
+
+/// The status of a play of `1 ls /` twice over this world, with what was written.
+fn played_in(alloc: Global, mut world: MemWorld) -> Result<(u8, Vec<u8>), Fail> {
+    let words = words_of(alloc, "play c s")?;
+    let status = run(alloc, &words, &mut world);
+    let written = Vec::from_slice(alloc, &world.out.bytes)?;
+    Ok((status, written))
+}
+
+#[test]
+fn a_failed_write_ends_the_run(rt: HostRuntime) -> Result<(), Fail> {
+    let alloc = rt.alloc();
+    let mut world = world_of(alloc, b"1 ls /\n1 ls /\n")?;
+    world.out.failing = Failing::listed(alloc, &[2])?;
+    let (status, written) = played_in(alloc, world)?;
+    assert_eq!(rt; status, 6);
+    assert_eq!(rt; written.as_slice(), b"1 ls / -> names\n".as_slice());
+    Ok(())
+}
+
+#[test]
+fn a_failed_read_ends_the_run(rt: HostRuntime) -> Result<(), Fail> {
+    let alloc = rt.alloc();
+    let mut world = world_of(alloc, b"1 ls /\n1 ls /\n")?;
+    world.script.failing = Failing::listed(alloc, &[1])?;
+    let (status, written) = played_in(alloc, world)?;
+    assert_eq!(rt; status, 5);
+    assert_eq!(rt; written.as_slice(), b"stopped 5 ReadFault\n".as_slice());
+    Ok(())
+}
+
+#[test]
+fn an_input_that_is_not_there_ends_the_run(rt: HostRuntime) -> Result<(), Fail> {
+    let alloc = rt.alloc();
+    let mut world = MemWorld::new(alloc);
+    world.hold("s", b"1 ls /\n")?;
+    let (status, written) = played_in(alloc, world)?;
+    assert_eq!(rt; status, 10);
+    assert_eq!(rt; written.as_slice(), b"stopped 10 OpenFault\n".as_slice());
+    Ok(())
+}
+
+/// A setup whose areas have 64 bytes.
+fn small_area(alloc: Global) -> Setup
+    ensures { is_setup result ≡ true }
+{
+    Setup {
+        block: 4,
+        patience: 3,
+        area: 64,
+        root: Items::from_vec(Vec::new(alloc)),
+        stores: 1,
+        tiers: Items::from_vec(Vec::new(alloc)),
+    }
+}
+
+#[test]
+fn a_full_area_refuses_changes(rt: HostRuntime) -> Result<(), Fail> {
+    let alloc = rt.alloc();
+    let script = read_script(alloc, b"1 mkdir /a\n1 ls /\n")?;
+    let mut sink = MemSink::new(alloc);
+    assert_eq!(rt; play(alloc, &small_area(alloc), &script, &mut sink), Ok(()));
+    assert_eq!(rt;
+        sink.bytes.as_slice(),
+        b"1 mkdir /a -> refused 22 Limit Area\n1 ls / -> names\n".as_slice()
+    );
+    Ok(())
+}
