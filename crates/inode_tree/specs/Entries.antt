@@ -15,6 +15,7 @@ node_in (Inode.File id len done stored pinned) = Node.IsFile (record { id = id; 
 abbrev pub node_row : Entry → NodeRow
 node_row e = (e.path, node_in e.inode)
 
+-- entries as the machine's rows
 abbrev pub node_rows : List Entry → List NodeRow
 node_rows es = map node_row es
 

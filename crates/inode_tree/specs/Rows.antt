@@ -11,6 +11,7 @@ use Rattle.inode_tree.specs.declared.row.Walk.{Walk}
 pub record TreeView : Type 0 where
   pub nodes : List NodeRow
 
+-- what a file's row keeps
 abbrev pub file_in_row : Row → File
 file_in_row r = record { id = r.id; len = r.len; done = r.done; stored = r.stored; pinned = r.pinned }
 

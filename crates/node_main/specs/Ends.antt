@@ -31,6 +31,7 @@ end_text ends.Memory = codes "stopped 8 Memory\n"
 end_text ends.TooLong = codes "stopped 9 TooLong\n"
 end_text ends.OpenFault = codes "stopped 10 OpenFault\n"
 
+-- the status of each end
 abbrev pub status_of : End → ℕ
 status_of ends.Done = 0
 status_of ends.BadWords = 2
@@ -43,15 +44,18 @@ status_of ends.OpenFault = 10
 
 -- ---- the end that is due where nothing fails
 
+-- the end by what reading the script gave
 abbrev pub end_of_reading : Result (List Command) ScriptFault → End
 end_of_reading (Ok commands) = ends.Done
 end_of_reading (Err (BadLine line)) = ends.BadScript line
 end_of_reading (Err Memory) = ends.Memory
 
+-- the end by the text under the script's name
 abbrev pub end_of_text : Option (List ℕ) → End
 end_of_text None = ends.OpenFault
 end_of_text (Some text) = if nat_lt LIMIT (length text) then ends.TooLong else end_of_reading (read_script text)
 
+-- the end by the names in the words
 abbrev pub end_of_names : Held → Option (List ℕ × List ℕ) → End
 end_of_names held None = ends.BadWords
 end_of_names held (Some names) = if is_missed (Some held) names.0 names.1 then ends.OpenFault else end_of_text (named held names.1)

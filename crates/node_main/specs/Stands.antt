@@ -14,6 +14,7 @@ pub record MasterView : Type 0 where
   pub nodes : List NodeRow
   pub gate : ℕ
 
+-- the row is a directory's
 abbrev pub is_directory : NodeRow → Bool
 is_directory (p, Node.Directory) = true
 is_directory (p, Node.IsFile f) = false

@@ -16,12 +16,14 @@ use Rattle.script_text.specs.Words.{path_word, name_word, key_word, hex_word, sp
 
 -- ---- events
 
+-- the word of a write type
 abbrev pub write_type_word : WriteType → List ℕ
 write_type_word WriteType.MustCache = codes "MUST_CACHE"
 write_type_word WriteType.CacheThrough = codes "CACHE_THROUGH"
 write_type_word WriteType.Through = codes "THROUGH"
 write_type_word WriteType.AsyncThrough = codes "ASYNC_THROUGH"
 
+-- the word of a read type
 abbrev pub read_type_word : ReadType → List ℕ
 read_type_word ReadType.Cache = codes "CACHE"
 read_type_word ReadType.CachePromote = codes "CACHE_PROMOTE"
@@ -71,6 +73,7 @@ event_words Event.Restart = codes "restart" ∷ []
 
 -- ---- refusals
 
+-- the word of a limit
 abbrev pub which_word : Which → List ℕ
 which_word Which.Path = codes "Path"
 which_word Which.Nodes = codes "Nodes"
@@ -115,6 +118,7 @@ refusal_words (Refusal.Damaged area place) = codes "28" ∷ codes "Damaged" ∷ 
 
 -- ---- replies
 
+-- the word of a file's state
 abbrev pub state_word : FileState → List ℕ
 state_word FileState.Incomplete = codes "INCOMPLETE"
 state_word FileState.Persisted = codes "PERSISTED"
