@@ -91,8 +91,10 @@ impl<R: Files + Drop, W: Write + Drop> RealWorld<R, W>
 where
     R::File: Drop,
 {
-    /// The world with no input open.
-    pub fn new(rt: R, out: W) -> Self {
+    /// The world with no input open and nothing failed.
+    pub fn new(rt: R, out: W) -> Self
+        ensures { result.faults ≡ 0 × result.script.faults ≡ 0 × result.out.faults ≡ 0 }
+    {
         RealWorld {
             rt,
             config: FileSource {
@@ -189,4 +191,55 @@ where
     ghost output_keeps_faults = { λ w o. refl };
 
     ghost output_keeps_misses = { λ w o. refl };
+}
+
+#[cfg(test)]
+mod tests {
+    use super::RealWorld;
+    use outside::stream::{Sink, Source};
+    use outside::world::{Fail as Failure, World};
+    use std::fs;
+    use std::test::Fail;
+
+    #[test]
+    fn a_file_is_read_to_its_end(rt: HostRuntime) -> Result<(), Fail> {
+        let alloc = rt.alloc();
+        fs::write(&rt, "script.txt", "1 ls /\n")?;
+        let mut world = RealWorld::new(rt.clone()?, Vec::new(alloc));
+        assert_eq!(rt; world.choose("", "script.txt"), Ok(()));
+        let mut buf = [0u8; 16];
+        assert_eq!(rt; world.script().pull(&mut buf), Ok(7));
+        assert_eq!(rt; buf[..7], *b"1 ls /\n".as_slice());
+        assert_eq!(rt; world.script().pull(&mut buf), Ok(0));
+        assert_eq!(rt; world.script().faults, 0);
+        assert_eq!(rt; world.config.pull(&mut buf), Ok(0));
+        Ok(())
+    }
+
+    #[test]
+    fn a_file_that_is_not_there_counts(rt: HostRuntime) -> Result<(), Fail> {
+        let alloc = rt.alloc();
+        fs::write(&rt, "script.txt", "1 ls /\n")?;
+        let mut world = RealWorld::new(rt.clone()?, Vec::new(alloc));
+        assert_eq!(rt;
+            world.choose("none.txt", "script.txt"),
+            Err(Failure::Failed)
+        );
+        assert_eq!(rt; world.choose("", "none.txt"), Err(Failure::Failed));
+        assert_eq!(rt; world.faults, 2);
+        let mut buf = [0u8; 16];
+        assert_eq!(rt; world.script().pull(&mut buf), Ok(0));
+        Ok(())
+    }
+
+    #[test]
+    fn an_output_takes_what_it_is_given(rt: HostRuntime) -> Result<(), Fail> {
+        let alloc = rt.alloc();
+        let mut world = RealWorld::new(rt.clone()?, Vec::new(alloc));
+        assert_eq!(rt; world.out().push(b"1 ls /"), Ok(6));
+        assert_eq!(rt; world.out().push(b" -> names\n"), Ok(10));
+        assert_eq!(rt; world.out.out.as_slice(), b"1 ls / -> names\n".as_slice());
+        assert_eq!(rt; world.out.faults, 0);
+        Ok(())
+    }
 }
