@@ -5,7 +5,7 @@ use Rattle.outside.specs.Causes.{Rose}
 use Rattle.outside.specs.Streams.{Takes}
 use Rattle.node_main.specs.declared.run.End.{End}
 use Rattle.node_main.specs.declared.run.End.TheVariants as ends
-use Rattle.node_main.specs.Ends.{Attempted, BeforeStop, Ended, FinishedAs, Held, IsDue, ToldAs, end_text, status_of}
+use Rattle.node_main.specs.Ends.{Attempted, BeforeLine, BeforeStop, Ended, FinishedAs, Held, IsDue, ToldAs, end_text, status_of}
 
 -- a count that rose later rose since before
 pub rose_since : (a b c : ℕ) → a ≤ b → Rose b c → Rose a c
@@ -52,6 +52,17 @@ module _ (held : Option Held) (words : List (List ℕ)) (before mid after : Opti
   before_stop ends.TooLong u a = inl a.1
   before_stop ends.OpenFault u a = inl a.1
 
+  -- its cause with that
+  before_line : (end : End) → IsUntold end → Attempted held words before mid world input early end → BeforeLine held words before mid world input end
+  before_line ends.Done u a = elim u [ ]
+  before_line ends.BadWords u a = a
+  before_line (ends.BadScript line) u a = a
+  before_line ends.ReadFault u a = a
+  before_line ends.WriteFault u a = elim u [ ]
+  before_line ends.Memory u a = a
+  before_line ends.TooLong u a = a
+  before_line ends.OpenFault u a = a
+
   moved : (text : List ℕ) → mid ≡ before → Takes mid after text → Takes before after text
   moved text e t = subst (λ x. Takes x after text) e t
 
@@ -66,16 +77,16 @@ module _ (held : Option Held) (words : List (List ℕ)) (before mid after : Opti
   told ends.TooLong u a t = (a.0, moved _ a.1 t)
   told ends.OpenFault u a t = (a.0, moved _ a.1 t)
 
-  partly : BeforeStop held words before mid → (end : End) (bytes : ℕ) → Takes mid after (take bytes (end_text end)) → later → Ended held words before after world input sink ends.WriteFault
-  partly lines end bytes t r = (since r, inr (record { between = mid; lines = lines; end = end; bytes = bytes; stop = t }))
+  partly : (end : End) → BeforeLine held words before mid world input end → (bytes : ℕ) → Takes mid after (take bytes (end_text end)) → later → Ended held words before after world input sink ends.WriteFault
+  partly end lines bytes t r = (since r, inr (record { end = end; between = mid; lines = lines; bytes = bytes; stop = t }))
 
   told_as : (end : End) → IsUntold end → Attempted held words before mid world input early end → (result : End) → ToldAs end mid after later result → Ended held words before after world input sink result
   told_as end u a result (ToldAs.Told t) = told end u a t
-  told_as end u a result (ToldAs.Partly bytes t r) = partly (before_stop end u a) end bytes t r
+  told_as end u a result (ToldAs.Partly bytes t r) = partly end (before_line end u a) bytes t r
 
   memory_as : BeforeStop held words before mid → (result : End) → ToldAs ends.Memory mid after later result → Ended held words before after world input sink result
   memory_as lines result (ToldAs.Told t) = record { between = mid; lines = lines; stop = t }
-  memory_as lines result (ToldAs.Partly bytes t r) = partly lines ends.Memory bytes t r
+  memory_as lines result (ToldAs.Partly bytes t r) = partly ends.Memory lines bytes t r
 
   pub finished : (end : End) → IsUntold end → Attempted held words before mid world input early end → (result : End) → FinishedAs end mid after later result → Ended held words before after world input sink result
   finished end u a result (inl t) = told_as end u a result t

@@ -116,18 +116,6 @@ pub record Stops (held : Option Held) (words : List (List ℕ)) (end : End) (bef
   pub lines : BeforeStop held words before between
   pub stop : Takes between after (end_text end)
 
--- nothing, or the first lines, and then a front of the line of some end
-pub record StopsPartly (held : Option Held) (words : List (List ℕ)) (before after : Option (List ℕ)) : Type 0 where
-  pub between : Option (List ℕ)
-  pub lines : BeforeStop held words before between
-  pub end : End
-  pub bytes : ℕ
-  pub stop : Takes between after (take bytes (end_text end))
-
--- a front of the lines, or the first lines and a front of the line of an end
-abbrev pub WritesPartly : Option Held → List (List ℕ) → Option (List ℕ) → Option (List ℕ) → Type 0
-WritesPartly held words before after = IsSomeAnd (play_words words) (λ names. PlaysPartly (IsScript held names.1) before after) ⊎ StopsPartly held words before after
-
 -- ---- what each end says
 
 -- why a run ends before its script is played
@@ -141,17 +129,35 @@ Cause held words world_rose input_rose ends.Memory = ⊤
 Cause held words world_rose input_rose ends.TooLong = IsSomeAnd (play_words words) (λ names. IsLonger held names.1 LIMIT)
 Cause held words world_rose input_rose ends.OpenFault = IsSomeAnd (play_words words) (λ names. world_rose ⊎ IsTrue (is_missed held names.0 names.1))
 
+-- why the line of the end is told, and what the sink took before it; no line tells that all was played, or that the sink failed
+abbrev pub BeforeLine : Option Held → List (List ℕ) → Option (List ℕ) → Option (List ℕ) → Type 0 → Type 0 → End → Type 0
+BeforeLine held words before after world_rose input_rose ends.Done = ⊥
+BeforeLine held words before after world_rose input_rose ends.WriteFault = ⊥
+BeforeLine held words before after world_rose input_rose ends.Memory = BeforeStop held words before after
+BeforeLine held words before after world_rose input_rose end = Cause held words world_rose input_rose end × (after ≡ before)
+
+-- the end has its cause, and a front of its line was taken
+pub record StopsPartly (held : Option Held) (words : List (List ℕ)) (before after : Option (List ℕ)) (world_rose input_rose : Type 0) : Type 0 where
+  pub end : End
+  pub between : Option (List ℕ)
+  pub lines : BeforeLine held words before between world_rose input_rose end
+  pub bytes : ℕ
+  pub stop : Takes between after (take bytes (end_text end))
+
+-- a front of the lines, or a front of the line of an end that has its cause
+abbrev pub WritesPartly : Option Held → List (List ℕ) → Option (List ℕ) → Option (List ℕ) → Type 0 → Type 0 → Type 0
+WritesPartly held words before after world_rose input_rose = IsSomeAnd (play_words words) (λ names. PlaysPartly (IsScript held names.1) before after) ⊎ StopsPartly held words before after world_rose input_rose
+
 -- before the line of the end is told: its cause, and what the sink took
 abbrev pub Attempted : Option Held → List (List ℕ) → Option (List ℕ) → Option (List ℕ) → Type 0 → Type 0 → Type 0 → End → Type 0
 Attempted held words before after world_rose input_rose sink_rose ends.Done = IsSomeAnd (play_words words) (λ names. Plays (IsScript held names.1) before after)
 Attempted held words before after world_rose input_rose sink_rose ends.WriteFault = sink_rose × IsSomeAnd (play_words words) (λ names. PlaysPartly (IsScript held names.1) before after)
-Attempted held words before after world_rose input_rose sink_rose ends.Memory = BeforeStop held words before after
-Attempted held words before after world_rose input_rose sink_rose end = Cause held words world_rose input_rose end × (after ≡ before)
+Attempted held words before after world_rose input_rose sink_rose end = BeforeLine held words before after world_rose input_rose end
 
 -- at the end: its cause, and what the sink took
 abbrev pub Ended : Option Held → List (List ℕ) → Option (List ℕ) → Option (List ℕ) → Type 0 → Type 0 → Type 0 → End → Type 0
 Ended held words before after world_rose input_rose sink_rose ends.Done = IsSomeAnd (play_words words) (λ names. Plays (IsScript held names.1) before after)
-Ended held words before after world_rose input_rose sink_rose ends.WriteFault = sink_rose × WritesPartly held words before after
+Ended held words before after world_rose input_rose sink_rose ends.WriteFault = sink_rose × WritesPartly held words before after world_rose input_rose
 Ended held words before after world_rose input_rose sink_rose ends.Memory = Stops held words ends.Memory before after
 Ended held words before after world_rose input_rose sink_rose end = Cause held words world_rose input_rose end × Takes before after (end_text end)
 

@@ -149,6 +149,7 @@ fn play_script<W: World>(alloc: Global, script: &Script, world: &mut W) -> End
     ensures done { result ≡ End.Done → Plays (λ commands. commands ≡ script.now) (W.Out.taken (W.output world.old)) (W.Out.taken (W.output world.new)) }
     ensures partly { result ≡ End.WriteFault → PlaysPartly (λ commands. commands ≡ script.now) (W.Out.taken (W.output world.old)) (W.Out.taken (W.output world.new)) }
     ensures memory { result ≡ End.Memory → PlaysFront (λ commands. commands ≡ script.now) (W.Out.taken (W.output world.old)) (W.Out.taken (W.output world.new)) }
+    // The sink failed, and took a front of the played lines, or a front of the line of an end that has its cause.
     ensures write { result ≡ End.WriteFault → Rose (W.Out.faults (W.output world.old)) (W.Out.faults (W.output world.new)) }
     ensures ends { (result ≡ End.Done) ⊎ (result ≡ End.WriteFault) ⊎ (result ≡ End.Memory) }
     ensures later { W.Out.faults (W.output world.old) ≤ W.Out.faults (W.output world.new) }
@@ -307,7 +308,7 @@ fn run_to_end<W: World>(alloc: Global, words: &[String], world: &mut W) -> End
 /// | 2 | `stopped 2 BadWords` | exactly where the words aren't `play CONFIG SCRIPT`, each name not empty and not beginning with `-` |
 /// | 4 | `stopped 4 BadScript LINE` | exactly where that line is the first that is no script line; nothing was done |
 /// | 5 | `stopped 5 ReadFault` | only where an input failed |
-/// | 6 | none | only where the output failed; it then took a front of the text |
+/// | 6 | none | only where the output failed; it then took a front of the lines, or a front of the line of another status, whose row holds |
 /// | 8 | `stopped 8 Memory` | want of memory; the lines of the first events may stand before it |
 /// | 9 | `stopped 9 TooLong` | exactly where the script has more than 16 MiB |
 /// | 10 | `stopped 10 OpenFault` | only where opening an input failed, or nothing is held under a name |
@@ -327,7 +328,7 @@ pub fn run<W: World>(alloc: Global, words: &[String], world: &mut W) -> u8
 
     // A fault comes only where its count rose, or where a name isn't held.
     ensures read { result ≡ 5 → Rose (W.In.faults (W.script_input world.old)) (W.In.faults (W.script_input world.new)) × Takes (W.Out.taken (W.output world.old)) (W.Out.taken (W.output world.new)) (end_text End.ReadFault) }
-    ensures write { result ≡ 6 → Rose (W.Out.faults (W.output world.old)) (W.Out.faults (W.output world.new)) × WritesPartly (W.held world.old) (map string_bytes words.now) (W.Out.taken (W.output world.old)) (W.Out.taken (W.output world.new)) }
+    ensures write { result ≡ 6 → Rose (W.Out.faults (W.output world.old)) (W.Out.faults (W.output world.new)) × WritesPartly (W.held world.old) (map string_bytes words.now) (W.Out.taken (W.output world.old)) (W.Out.taken (W.output world.new)) (Rose (W.faults world.old) (W.faults world.new)) (Rose (W.In.faults (W.script_input world.old)) (W.In.faults (W.script_input world.new))) }
     ensures open { result ≡ 10 → IsSomeAnd (play_words (map string_bytes words.now)) (λ names. Rose (W.faults world.old) (W.faults world.new) ⊎ IsTrue (is_missed (W.held world.old) names.0 names.1)) × Takes (W.Out.taken (W.output world.old)) (W.Out.taken (W.output world.new)) (end_text End.OpenFault) }
 
     ensures memory { result ≡ 8 → Stops (W.held world.old) (map string_bytes words.now) End.Memory (W.Out.taken (W.output world.old)) (W.Out.taken (W.output world.new)) }
