@@ -3,3 +3,4 @@ pub mod Begin
 pub mod Runs
 pub mod Built
 pub mod Finishing
+pub mod Telling

@@ -3,3 +3,4 @@ pub mod Tests
 pub mod Play
 pub mod Words
 pub mod Ends
+pub mod Files

@@ -8,6 +8,9 @@ pub mod run;
 #[cfg(test)]
 mod tests;
 
+ghost use Rattle.std.specs.Prelude.{◌≢◌, IfErr};
+ghost use Rattle.std.specs.IoError.{error_kind};
+
 use real::RealWorld;
 use run::run;
 use std::env;
@@ -15,7 +18,9 @@ use std::io::{self, ErrorKind};
 use std::process::ExitCode;
 
 /// The words after the program's name; none where one of them isn't UTF-8, since no command has such a word.
-fn words_of(rt: &HostRuntime) -> io::Result<Vec<String>> {
+fn words_of(rt: &HostRuntime) -> io::Result<Vec<String>>
+    ensures { IfErr result (λ error. error_kind error ≢ ErrorKind.InvalidData) }
+{
     let mut words = Vec::new(rt.alloc());
     match env::args(rt) {
         Ok(all) => {

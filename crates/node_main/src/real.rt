@@ -1,13 +1,37 @@
-//! Files as inputs, and an output, as the system has them. None of them tells what it holds or took.
+//! Files as inputs, and an output, as the system has them. A source or sink tells where its reader or writer does,
+//! which the system's don't.
 
-ghost use Rattle.std.specs.Prelude.{◌≡◌, ◌≤◌, None, refl};
+ghost use Rattle.std.specs.Prelude.{◌≡◌, ◌≤◌, [], IfOk, IsOk, is_some, None, refl};
 ghost use Rattle.outside.specs.Causes.{Rose};
+ghost use Rattle.outside.specs.Streams.{Pulls, Pushes};
+ghost use Rattle.node_main.specs.Files.{file_left, is_named};
 
 use outside::stream::{Fault, Sink, Source};
 use outside::world::{Fail, World};
-use std::fs;
-use std::io::{Read, Write};
+use std::fs::{self, File};
+use std::io::{Print, Printer, Read, Write};
 use std::rt::Files;
+
+/// A reader's type of which either each value tells what it has left, or none does. Otherwise a reader that tells
+/// nothing could tell something after a call, and no source does.
+pub trait SteadyRead: Read {
+    ghost steady: { (a b : Self) → is_some (Self.remaining a) ≡ is_some (Self.remaining b) };
+}
+
+/// No file of the system tells.
+impl SteadyRead for File {
+    ghost steady = { λ a b. refl };
+}
+
+/// A writer's type of which either each value tells what it holds, or none does.
+pub trait SteadyWrite: Write {
+    ghost steady: { (a b : Self) → is_some (Self.contents a) ≡ is_some (Self.contents b) };
+}
+
+/// What is printed isn't told.
+impl<P: Print> SteadyWrite for Printer<'_, P> {
+    ghost steady = { λ a b. refl };
+}
 
 /// The count after one more failure; it stays at its last value.
 fn counted(faults: u64) -> u64
@@ -16,24 +40,34 @@ fn counted(faults: u64) -> u64
     faults.saturating_add(1)
 }
 
+/// Reads the next bytes of a file.
+fn read_file<F: SteadyRead>(file: &mut F, buf: &mut [u8]) -> Result<usize, Fault>
+    ensures { Pulls (F.remaining file.old) (F.remaining file.new) buf.new result }
+{
+    match file.read(buf) {
+        Ok(count) => Ok(count),
+        Err(_) => Err(Fault),
+    }
+}
+
 /// A file that is read, or an input that holds nothing.
 #[derive(Drop)]
-pub struct FileSource<F: Read + Drop> {
+pub struct FileSource<F: SteadyRead + Drop> {
     file: Option<F>,
     faults: u64,
 }
 
-impl<F: Read + Drop> Source for FileSource<F> {
-    ghost left = { λ _. None };
+impl<F: SteadyRead + Drop> Source for FileSource<F> {
+    ghost left = { λ s. file_left F.remaining s.file };
 
     ghost faults = { λ s. s.faults };
 
     fn pull(&mut self, buf: &mut [u8]) -> Result<usize, Fault> {
         match &mut self.file {
             None => Ok(0),
-            Some(file) => match file.read(buf) {
+            Some(file) => match read_file(file, buf) {
                 Ok(count) => Ok(count),
-                Err(_) => {
+                Err(Fault) => {
                     self.faults = counted(self.faults);
                     Err(Fault)
                 }
@@ -42,43 +76,53 @@ impl<F: Read + Drop> Source for FileSource<F> {
     }
 }
 
+/// Writes the first bytes of a piece, at least one.
+fn write_piece<W: SteadyWrite>(out: &mut W, piece: &[u8]) -> Result<usize, Fault>
+    ensures { Pushes (W.contents out.old) (W.contents out.new) piece.now result }
+{
+    match out.write(piece) {
+        Ok(count) if count > 0 => Ok(count),
+        _ => Err(Fault),
+    }
+}
+
 /// An output, of which each push is one write.
 #[derive(Drop)]
-pub struct OutSink<W: Write + Drop> {
+pub struct OutSink<W: SteadyWrite + Drop> {
     out: W,
     faults: u64,
 }
 
-impl<W: Write + Drop> OutSink<W> {
+impl<W: SteadyWrite + Drop> OutSink<W> {
     /// A sink over the output, with nothing failed yet.
     pub fn new(out: W) -> OutSink<W>
-        ensures { result.faults ≡ 0 }
+        ensures { (result.out ≡ out) × (result.faults ≡ 0) }
     {
         OutSink { out, faults: 0 }
     }
 }
 
-impl<W: Write + Drop> Sink for OutSink<W> {
-    ghost taken = { λ _. None };
+impl<W: SteadyWrite + Drop> Sink for OutSink<W> {
+    ghost taken = { λ s. W.contents s.out };
 
     ghost faults = { λ s. s.faults };
 
     fn push(&mut self, piece: &[u8]) -> Result<usize, Fault> {
-        match self.out.write(piece) {
-            Ok(0) | Err(_) => {
+        match write_piece(&mut self.out, piece) {
+            Ok(count) => Ok(count),
+            Err(Fault) => {
                 self.faults = counted(self.faults);
                 Err(Fault)
             }
-            Ok(count) => Ok(count),
         }
     }
 }
 
 /// The files of the system as inputs, and an output.
 #[derive(Drop)]
-pub struct RealWorld<R: Files + Drop, W: Write + Drop>
+pub struct RealWorld<R: Files + Drop, W: SteadyWrite + Drop>
 where
-    R::File: Drop,
+    R::File: SteadyRead + Drop,
 {
     rt: R,
     config: FileSource<R::File>,
@@ -87,9 +131,9 @@ where
     faults: u64,
 }
 
-impl<R: Files + Drop, W: Write + Drop> RealWorld<R, W>
+impl<R: Files + Drop, W: SteadyWrite + Drop> RealWorld<R, W>
 where
-    R::File: Drop,
+    R::File: SteadyRead + Drop,
 {
     /// The world with no input open and nothing failed.
     pub fn new(rt: R, out: W) -> Self
@@ -112,7 +156,10 @@ where
 }
 
 /// Opens the file of a name; an empty name stands for none.
-fn open<R: Files>(rt: &R, name: &str) -> Result<Option<R::File>, Fault> {
+fn open<R: Files>(rt: &R, name: &str) -> Result<Option<R::File>, Fault>
+    ensures opened { IfOk result (λ file. is_some file ≡ is_named name.now) }
+    ensures nothing { name.now ≡ [] → IsOk result }
+{
     if name.is_empty() {
         return Ok(None);
     }
@@ -122,9 +169,9 @@ fn open<R: Files>(rt: &R, name: &str) -> Result<Option<R::File>, Fault> {
     }
 }
 
-impl<R: Files + Drop, W: Write + Drop> World for RealWorld<R, W>
+impl<R: Files + Drop, W: SteadyWrite + Drop> World for RealWorld<R, W>
 where
-    R::File: Drop,
+    R::File: SteadyRead + Drop,
 {
     type In = FileSource<R::File>;
 
@@ -195,11 +242,16 @@ where
 
 #[cfg(test)]
 mod tests {
-    use super::RealWorld;
+    use super::{RealWorld, SteadyWrite};
     use outside::stream::{Sink, Source};
     use outside::world::{Fail as Failure, World};
     use std::fs;
     use std::test::Fail;
+
+    /// A vector tells all that it holds.
+    impl SteadyWrite for Vec<u8> {
+        ghost steady = { λ a b. refl };
+    }
 
     #[test]
     fn a_file_is_read_to_its_end(rt: HostRuntime) -> Result<(), Fail> {
