@@ -5,3 +5,6 @@ pub mod Counts
 pub mod Failures
 pub mod Held
 pub mod Fakes
+pub mod Keys
+pub mod Contents
+pub mod Polls
