@@ -6,5 +6,7 @@ pub mod Failures
 pub mod Held
 pub mod Fakes
 pub mod Keys
+pub mod KeyOrder
 pub mod Contents
 pub mod Polls
+pub mod Readers
