@@ -5,3 +5,8 @@ pub mod Counts
 pub mod Failures
 pub mod Held
 pub mod Fakes
+pub mod Keys
+pub mod KeyOrder
+pub mod Contents
+pub mod Polls
+pub mod Readers

@@ -2,7 +2,10 @@
 //! has both. `memory` has the same in memory, told which of its calls are to fail.
 #![tactic(auto)]
 
+pub mod key;
+pub mod media;
 pub mod memory;
+pub mod objects;
 pub mod stream;
 #[cfg(test)]
 mod tests;

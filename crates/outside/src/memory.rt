@@ -5,9 +5,13 @@
 mod failures;
 mod inputs;
 mod outputs;
+mod readers;
 mod whole;
+mod writers;
 
 pub use failures::Failing;
 pub use inputs::MemSource;
 pub use outputs::MemSink;
+pub use readers::MemReader;
 pub use whole::{Input, MemWorld};
+pub use writers::{MemObject, MemWriter};

@@ -46,6 +46,19 @@ impl Failing {
     }
 }
 
+impl Clone for Failing {
+    ghost use Rattle.std.specs.Prelude.{◌≡◌};
+
+    ghost is_clone = { λ failing copy. (copy.calls.items ≡ failing.calls.items) × (copy.from ≡ failing.from) };
+
+    fn clone(&self) -> Result<Failing, AllocError> {
+        Ok(Failing {
+            calls: self.calls.clone()?,
+            from: self.from,
+        })
+    }
+}
+
 /// A count, one higher where something happened; it stays at its last value.
 pub(crate) fn counted(count: u64, happened: bool) -> u64
     ensures { result ≡ counted count happened }

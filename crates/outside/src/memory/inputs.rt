@@ -25,7 +25,7 @@ pub struct MemSource {
 }
 
 /// Copies as many bytes as there are and as fit, up to `greatest`, and answers how many.
-fn copy_front(from: &[u8], to: &mut [u8], greatest: usize) -> usize
+pub(crate) fn copy_front(from: &[u8], to: &mut [u8], greatest: usize) -> usize
     ensures count { result ≡ piece_len (length from.now) (length to.old) greatest }
     ensures copied { take result to.new ≡ take result from.now }
 {
