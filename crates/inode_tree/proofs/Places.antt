@@ -1,17 +1,20 @@
 -- What stands at the place of a path.
-use Rattle.std.proofs.Common.{◌≡◌, ℕ, ◌+◌, ◌<◌, ◌≤◌, true, false, List, ◌∷◌, length, drop, get_or, Some, None, nat_eq, refl, sym, ap, ◌∙◌, subst, arith}
+use Rattle.std.proofs.Common.{◌≡◌, ℕ, ◌+◌, ◌<◌, ◌≤◌, true, false, List, ◌∷◌, length, drop, get_or, Option, Some, None, option_map, nat_eq, refl, sym, ap, ◌∙◌, subst, arith}
+use Rattle.std.specs.Prelude.{set}
+use Rattle.std.specs.Ordering.{eq_by_cmp}
 use Rattle.std.specs.List.{AllWithin, insert}
 use Rattle.std.specs.Cmp.Lexicographic.{pointwise}
 use Rattle.std.proofs.lemmas.List.{drop_more}
 use Rattle.fs_model.specs.declared.path.Path.{Path}
 use Rattle.fs_model.specs.Equal.{names_cmp_total, names_ties}
-use Rattle.fs_model.specs.Words.{path_lt}
+use Rattle.fs_model.specs.Words.{path_cmp, path_lt}
 use Rattle.fs_model.specs.State.{Node, NodeRow}
 use Rattle.fs_model.specs.Lookups.{find_node}
 use Rattle.fs_model.specs.Changes.{put_node}
 use Rattle.inode_tree.specs.declared.entry.Entry.{Entry}
 use Rattle.inode_tree.specs.Entries.{node_in, node_row, node_rows, in_order}
-use Rattle.inode_tree.proofs.Rising.{find_here, find_other, put_here, is_sorted-put_here}
+use Rattle.inode_tree.specs.Rows.{file_id}
+use Rattle.inode_tree.proofs.Rising.{find_here, find_other, put_here, found_here, put_over, is_sorted-put_here}
 
 module _ (es : List Entry) (p : Path) (i : ℕ) (e : Entry) (within : i < length es) (is : e ≡ get_or es i e) (before : AllWithin (λ x. path_lt x.path p ≡ true) es 0 i) where
   rest : drop i es ≡ e ∷ drop (i + 1) es
@@ -45,4 +48,36 @@ module _ (es ds ys : List Entry) (q : Path) (i : ℕ) (x : Entry) (read : ds ≡
   pub stays_in_order : (nodes : List NodeRow) (p : Path) → node_rows es ≡ nodes → x.path ≡ p → find_node nodes p ≡ None → in_order es ≡ true → in_order ys ≡ true
   stays_in_order nodes p view named none ordered =
       let none_there : find_node (node_rows es) x.path ≡ None = (λ j. find_node (view j) (named j)) ∙ none in
-      ap in_order made ∙ is_sorted-put_here names_cmp_total node_row x.path (node_in x.inode) es i x (put_in none_there) ordered
+      ap in_order made ∙ is_sorted-put_here names_cmp_total node_row x.path (node_in x.inode) es (insert es i x) (put_in none_there) ordered
+
+-- an entry whose node is set: `q` is the path as it was looked for, `ds` the entries as they were read
+module _ (es ds : List Entry) (q p : Path) (i : ℕ) (nodes : List NodeRow) (id : Option ℕ) (read : ds ≡ es) (sought : q ≡ p) (view : node_rows es ≡ nodes) (within : i ≤ length ds)
+    (before : AllWithin (λ e. path_lt e.path q ≡ true) ds 0 i) (after : AllWithin (λ e. path_lt e.path q ≡ false) ds i (length ds)) (ordered : in_order es ≡ true) (found : option_map file_id (find_node nodes p) ≡ Some id) where
+  before_here : AllWithin (λ e. path_lt e.path p ≡ true) es 0 i
+  before_here = subst (λ zs. AllWithin (λ e. path_lt e.path p ≡ true) zs 0 i) read (subst (λ r. AllWithin (λ e. path_lt e.path r ≡ true) ds 0 i) sought before)
+
+  -- its path is the one
+  stands_there : (d : Entry) → (i < length es) × (eq_by_cmp path_cmp p (get_or es i d).path ≡ true)
+  stands_there d =
+      let node = some_node (find_node nodes p) found in
+      found_here names_cmp_total node_row p es i d node.0 (ap (λ rows. find_node rows p) view ∙ node.1)
+      (subst (λ zs. i ≤ length zs) read within) ordered before_here
+      (subst (λ zs. AllWithin (λ e. path_lt e.path p ≡ false) zs i (length zs)) read (subst (λ r. AllWithin (λ e. path_lt e.path r ≡ false) ds i (length ds)) sought after))
+    where
+      some_node : (o : Option Node) → option_map file_id o ≡ Some id → (n : Node) × (o ≡ Some n)
+      some_node (Some n) h = (n, refl)
+      some_node None h = cc
+
+  pub is_within : Entry → i < length es
+  is_within d = (stands_there d).0
+
+  set_in : (e x : Entry) → e ≡ get_or es i e → x.path ≡ e.path → put_node p (node_in x.inode) (node_rows es) ≡ node_rows (set es i x)
+  set_in e x is same =
+      let path : x.path ≡ (get_or es i e).path = same ∙ ap (λ y. y.path) is in
+      put_over names_cmp_total node_row p (node_in x.inode) es i e x (λ j. (path j, node_in x.inode)) (stands_there e).0 before_here (stands_there e).1
+
+  pub is_set : (e x : Entry) (n : Node) → e ≡ get_or es i e → x.path ≡ e.path → node_in x.inode ≡ n → node_rows (set es i x) ≡ put_node p n nodes
+  is_set e x n is same kind = sym (set_in e x is same) ∙ (λ j. put_node p (kind j) (view j))
+
+  pub set_in_order : (e x : Entry) → e ≡ get_or es i e → x.path ≡ e.path → in_order (set es i x) ≡ true
+  set_in_order e x is same = is_sorted-put_here names_cmp_total node_row p (node_in x.inode) es (set es i x) (set_in e x is same) ordered

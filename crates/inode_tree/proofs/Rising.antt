@@ -4,6 +4,7 @@ use Rattle.std.specs.declared.cmp.Ordering.TheVariants.{Less, Equal, Greater}
 use Rattle.std.specs.Ordering.{is_lt, is_eq, ordering_reverse, eq_by_cmp}
 use Rattle.std.specs.Cmp.{IsTotalOrder}
 use Rattle.std.specs.List.{AllWithin, insert, filter_map, cons_option}
+use Rattle.std.specs.Prelude.{set}
 use Rattle.std.specs.List.Sorted.{IsPartitionedBy}
 use Rattle.std.specs.FinMap.Entries.{by_order, find, put, below_all, is_sorted, is_sorted-put}
 use Rattle.std.proofs.lemmas.Bool.{and_parts, cases_lt}
@@ -21,6 +22,11 @@ pub less : (r : Ordering) → is_lt r ≡ true → r ≡ Less
 less Less h = refl
 less Equal h = cc
 less Greater h = cc
+
+level : (r : Ordering) → is_eq r ≡ true → r ≡ Equal
+level Less h = cc
+level Equal h = refl
+level Greater h = cc
 
 -- what is neither below nor level is above
 above : (r : Ordering) → is_lt r ≡ false → is_eq (ordering_reverse r) ≡ false → ordering_reverse r ≡ Less
@@ -117,9 +123,33 @@ module _ {K V X : Type 0} {R : K → K → Ordering} (o : IsTotalOrder R) (entry
       ap (λ r. by_order r ((q, v) ∷ entry e ∷ map entry es) (((entry e).0, v) ∷ map entry es) (entry e ∷ put R q v (map entry es))) higher
       ∙ ap (λ ys. entry e ∷ ys) (put_here q v es i x is (omega arith) (λ k d low high. before (suc k) d (omega arith) (omega arith)) (λ k d low high. after (suc k) d (omega arith) (omega arith)) none_there)
 
+  -- at the place of a key that is found stands its entry
+  pub found_here : (q : K) (es : List X) (i : ℕ) (d : X) (v : V) → find R q (map entry es) ≡ Some v → i ≤ length es → is_sorted R (map entry es) ≡ true → AllWithin (Before q) es 0 i → AllWithin (NotBefore q) es i (length es) → (i < length es) × (eq_by_cmp R q (entry (get_or es i d)).0 ≡ true)
+  found_here q [] zero d v found le sorted before after = cc
+  found_here q (e ∷ es) zero d v found le sorted before after =
+      elim (eq_by_cmp R q (entry e).0) as (λ b. eq_by_cmp R q (entry e).0 ≡ b → (0 < length (e ∷ es)) × (b ≡ true)) [
+        | true ↦ λ same. (omega arith, refl)
+        | false ↦ λ other. let none = find_other q (e ∷ es) 0 e (omega arith) refl sorted before (after 0 e (omega arith) (omega arith)) other in cc
+      ] refl
+  found_here q [] (suc i) d v found le sorted before after = cc
+  found_here q (e ∷ es) (suc i) d v found le sorted before after =
+      let past : find R q (map entry (e ∷ es)) ≡ find R q (map entry es) = ap (λ r. cond (is_eq r) (Some (entry e).1) (find R q (map entry es))) (turned q (entry e).0 (before 0 e (omega arith) (omega arith))) in
+      let rest = found_here q es i d v (sym past ∙ found) (omega arith) (and_parts _ _ sorted).1 (λ k d low high. before (suc k) d (omega arith) (omega arith)) (λ k d low high. after (suc k) d (omega arith) (omega arith)) in
+      (omega (arith, rest.0), rest.1)
+
+  -- an entry that is there gets another value
+  pub put_over : (q : K) (v : V) (es : List X) (i : ℕ) (d x : X) → entry x ≡ ((entry (get_or es i d)).0, v) → i < length es → AllWithin (Before q) es 0 i → eq_by_cmp R q (entry (get_or es i d)).0 ≡ true → put R q v (map entry es) ≡ map entry (set es i x)
+  put_over q v [] i d x is lt before same = absurd (omega arith)
+  put_over q v (e ∷ es) zero d x is lt before same =
+      ap (λ r. by_order r ((q, v) ∷ entry e ∷ map entry es) (((entry e).0, v) ∷ map entry es) (entry e ∷ put R q v (map entry es))) (level _ same)
+      ∙ ap (λ y. y ∷ map entry es) (sym is)
+  put_over q v (e ∷ es) (suc i) d x is lt before same =
+      ap (λ r. by_order r ((q, v) ∷ entry e ∷ map entry es) (((entry e).0, v) ∷ map entry es) (entry e ∷ put R q v (map entry es))) (turned q (entry e).0 (before 0 e (omega arith) (omega arith)))
+      ∙ ap (λ ys. entry e ∷ ys) (put_over q v es i d x is (omega arith) (λ k d low high. before (suc k) d (omega arith) (omega arith)) same)
+
   -- and the keys still rise
-  pub is_sorted-put_here : (q : K) (v : V) (es : List X) (i : ℕ) (x : X) → put R q v (map entry es) ≡ map entry (insert es i x) → is_sorted R (map entry es) ≡ true → is_sorted R (map entry (insert es i x)) ≡ true
-  is_sorted-put_here q v es i x same h = ap (is_sorted R) (sym same) ∙ is_true _ (is_sorted-put R o q v (map entry es) (passed _ h))
+  pub is_sorted-put_here : (q : K) (v : V) (es ys : List X) → put R q v (map entry es) ≡ map entry ys → is_sorted R (map entry es) ≡ true → is_sorted R (map entry ys) ≡ true
+  is_sorted-put_here q v es ys same h = ap (is_sorted R) (sym same) ∙ is_true _ (is_sorted-put R o q v (map entry es) (passed _ h))
 
 -- a front that gives nothing may be left out
 pub skip_front : {K V X Y : Type 0} (entry : X → K × V) (h : K × V → Option Y) (es : List X) (i : ℕ) → i ≤ length es → AllWithin (λ x. h (entry x) ≡ None) es 0 i → filter_map h (map entry (drop i es)) ≡ filter_map h (map entry es)

@@ -1,5 +1,5 @@
 -- Rows and walks in the words of the file machine.
-use Rattle.std.specs.Prelude.{ℕ, Bool, true, false, List, Option, find}
+use Rattle.std.specs.Prelude.{ℕ, Bool, true, false, List, Option, None, Some, find}
 use Rattle.fs_model.specs.declared.reply.Stored.{Stored}
 use Rattle.fs_model.specs.State.{Node, File, NodeRow}
 use Rattle.fs_model.specs.Lookups as machine
@@ -27,6 +27,11 @@ node_of r = node_if r.dir (file_in_row r)
 -- the row of each directory
 abbrev pub directory_row : Row
 directory_row = record { dir = true; id = 0; len = 0; done = true; stored = Stored.No; pinned = false }
+
+-- the number of a file; a directory has none
+abbrev pub file_id : Node → Option ℕ
+file_id Node.Directory = None
+file_id (Node.IsFile f) = Some f.id
 
 -- the one row that a tree tells of a node
 abbrev pub row_of_node : Node → Row

@@ -139,3 +139,48 @@ fn a_file_is_found_by_its_number(rt: HostRuntime) -> Result<(), Fail> {
     assert!(rt; tree.path_of(rt.alloc(), FileId(0))?.is_none());
     Ok(())
 }
+
+/// Puts a row in place of a node of the same kind and number, and says whether there was one.
+fn set(tree: &mut Tree, alloc: Global, text: &str, row: Row) -> Result<bool, Fail> {
+    let path = Path::read(alloc, text.as_bytes())?;
+    let Walk::Found(found) = tree.walk(&path) else {
+        return Ok(false);
+    };
+    if found.dir != row.dir || found.id != row.id {
+        return Ok(false);
+    }
+    tree.set(&path, row);
+    Ok(true)
+}
+
+#[test]
+fn a_row_is_set_in_place(rt: HostRuntime) -> Result<(), Fail> {
+    let mut tree = sample(rt.alloc())?;
+    let longer = Row {
+        len: 4_398_046_511_104,
+        stored: Stored::Yes,
+        pinned: false,
+        ..file(7)
+    };
+    for (text, row, there) in [
+        ("/a/y", longer, true),
+        ("/a", DIRECTORY, true),
+        ("/a/y", file(8), false),
+        ("/a/y", DIRECTORY, false),
+        ("/a", file(7), false),
+        ("/none", file(7), false),
+    ] {
+        assert_eq!(rt; set(&mut tree, rt.alloc(), text, row)?, there, "{text}");
+    }
+    for (text, row) in [
+        ("/a/y", longer),
+        ("/a/x/deep", file(8)),
+        ("/a", DIRECTORY),
+        ("/ab", DIRECTORY),
+    ] {
+        let path = Path::read(rt.alloc(), text.as_bytes())?;
+        assert_eq!(rt; tree.walk(&path), Walk::Found(row), "{text}");
+    }
+    assert_eq!(rt; tree.len(), 7);
+    Ok(())
+}

@@ -6,7 +6,7 @@ ghost use Rattle.fs_model.specs.State.{Node};
 ghost use Rattle.fs_model.specs.Lookups as machine;
 ghost use Rattle.fs_model.specs.Lookups.{find_node, walk_nodes, walk_above, names_in};
 ghost use Rattle.fs_model.specs.Changes.{put_node};
-ghost use Rattle.inode_tree.specs.Rows.{node_of, directory_row, row_of_node, leads_to, IfFound, OnFound, OnBlocked, file_row};
+ghost use Rattle.inode_tree.specs.Rows.{node_of, directory_row, row_of_node, leads_to, IfFound, OnFound, OnBlocked, file_row, file_id};
 
 use crate::entry::{
     Entry, Inode, children, entries_under, file_entry, inode_at, place_of, walk_prefixes,
@@ -129,6 +129,16 @@ impl Tree {
         let at = place_of(&self.entries, path.as_slice());
         self.entries.insert(at, Entry { path, inode })?;
         Ok(())
+    }
+
+    /// Puts the row in place of that of the node at the path; takes no memory. The row is of the node's kind, a
+    /// file's with its number. All other nodes stay as they are.
+    pub fn set(&mut self, path: &Path, row: Row)
+        requires same { option_map file_id (find_node self.old.nodes path.now) ≡ Some (file_id (node_of row)) }
+        ensures { self.new.nodes ≡ put_node path.now (node_of row) self.old.nodes }
+    {
+        let at = place_of(&self.entries, path.as_slice());
+        self.entries[at].inode = Inode::of(row);
     }
 
     /// The names right below the path, in the order of their bytes. It looks at the nodes below the path alone.
