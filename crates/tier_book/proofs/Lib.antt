@@ -1,0 +1,4 @@
+pub mod Freed
+pub mod Tiers
+pub mod Changes
+pub mod Order

@@ -1,0 +1,15 @@
+use Rattle.std.proofs.Common.{◌≡◌, map, length, take, drop, sym, ap, ◌∙◌, arith}
+use Rattle.std.proofs.lemmas.List.{take_at, length-map}
+use Rattle.tier_book.specs.Rows.{copied_of, room_row}
+use Rattle.tier_book.proofs.Changes.{rooms_out}
+use Rattle.tier_book.proofs.book.Book.cancel.Goals as goal
+
+pub invariant_of-self : goal.invariant_of-self
+invariant_of-self c =
+    let s = c.self.inside in
+    let long : length c.free_rooms.new.taken ≡ s.taken.len = omega arith in
+    rw (take_at c.free_rooms.new.taken (drop (length c.free_rooms.new.taken) s.taken.items) s.taken.len long) (
+      rooms_out s.sizes.items s.taken.items c.deref_mut.result.now c.free_rooms.new.taken (map room_row s.rooms.items) (map room_row c.deref.result.now) (map room_row c.remove_rooms.new.rooms.items) (map copied_of s.rows.items) c.args.room
+          c.self.invariant.0 c.deref_mut.ensures.value (ap (map room_row) c.deref.ensures.value) c.free_rooms.ensures.len c.free_rooms.ensures.freed c.remove_rooms.ensures.items,
+      omega arith,
+    )
