@@ -1,7 +1,7 @@
 //! Which calls of a store in memory are to fail, and how many of each kind there were.
 
 ghost use Rattle.std.specs.Prelude.{◌≡◌, [], IfOk, ℕ};
-ghost use Rattle.outside.specs.Calls.{fails_next, after_call, change_fails, change_happens, after_change, is_listed_for};
+ghost use Rattle.outside.specs.Calls.{IsFresh, fails_next, after_call, change_fails, change_happens, after_change, is_listed_for};
 ghost use Rattle.outside.specs.Failures.{is_failing, IsQuiet};
 
 use crate::memory::failures::Failing;
@@ -117,15 +117,7 @@ impl ChangingCalls {
 impl StoreCalls {
     /// There were none, and none fails; takes no memory.
     pub fn new(alloc: Global) -> StoreCalls
-        ensures begin_reads { IsQuiet result.begin_reads.failing × (result.begin_reads.count ≡ 0) }
-        ensures begin_writes { IsQuiet result.begin_writes.failing × (result.begin_writes.count ≡ 0) }
-        ensures finishes { IsQuiet result.finishes.failing × (result.finishes.count ≡ 0) }
-        ensures renames { IsQuiet result.renames.failing × (result.renames.count ≡ 0) }
-        ensures removes { IsQuiet result.removes.failing × (result.removes.count ≡ 0) }
-        ensures next_keys { IsQuiet result.next_keys.failing × (result.next_keys.count ≡ 0) }
-        ensures clears { IsQuiet result.clears.failing × (result.clears.count ≡ 0) }
-        ensures polls { (result.failing_polls.items ≡ []) × (result.waiting_polls.items ≡ []) }
-        ensures puts { result.failing_puts.items ≡ [] }
+        ensures { IsFresh result }
     {
         StoreCalls {
             begin_reads: Calls::new(alloc),

@@ -5,7 +5,7 @@ ghost use Rattle.std.specs.Option.{option_copied};
 ghost use Rattle.outside.specs.Causes.{HasCause, Rose, next_count};
 ghost use Rattle.outside.specs.Counts.{counted};
 ghost use Rattle.outside.specs.Failures.{is_failing};
-ghost use Rattle.outside.specs.Calls.{after_call, after_change, fails_next, is_last, is_listed_for};
+ghost use Rattle.outside.specs.Calls.{IsFresh, after_call, after_change, fails_next, is_last, is_listed_for};
 ghost use Rattle.outside.specs.Contents.{Changes, Happens, IsCrossed, IsFirst, IsMoveCrossed, IsRange, IsSame, IsThinned, SaysThere, emptied, is_after, is_short, moved, put_at};
 ghost use Rattle.outside.specs.Readers.{unread_of};
 ghost use Rattle.outside.specs.Stored.{held, renamed, without};
@@ -75,6 +75,7 @@ impl MemObjects {
     /// A store that holds nothing, and of which no call fails; takes no memory.
     pub fn new(alloc: Global) -> MemObjects
         ensures objects { result.objects ≡ [] }
+        ensures calls { IsFresh result.calls }
         ensures counts { (result.faults ≡ 0) × (result.misses ≡ 0) × (result.changes ≡ 0) }
     {
         MemObjects {
