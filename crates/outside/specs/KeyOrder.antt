@@ -1,5 +1,5 @@
 -- The laws of equality and order of keys.
-use Rattle.std.specs.Prelude.{ℕ, ◌≡◌, List, nat_eq, Some, refl}
+use Rattle.std.specs.Prelude.{ℕ, ◌≡◌, List, Some, refl}
 use Rattle.std.specs.Ordering.{nat_cmp, eq_by_cmp}
 use Rattle.std.specs.Cmp.{IsEquivalence, IsTotalOrder, IsPartialOrder, partial_order_from_agreeing_total}
 use Rattle.std.specs.Cmp.Lexicographic.{slice_cmp, nat_list_eq_equiv, nat_list_cmp_total, lists_equiv, lists_total, lists_ties, texts_ties}

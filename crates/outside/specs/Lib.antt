@@ -10,3 +10,6 @@ pub mod KeyOrder
 pub mod Contents
 pub mod Polls
 pub mod Readers
+pub mod Calls
+pub mod Stored
+pub mod Fates

@@ -6,6 +6,8 @@ pub mod key;
 pub mod media;
 pub mod memory;
 pub mod objects;
+#[cfg(test)]
+mod store_tests;
 pub mod stream;
 #[cfg(test)]
 mod tests;

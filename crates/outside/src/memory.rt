@@ -2,16 +2,21 @@
 //! holds and tells all of it, counts its calls and its failures, and fails the calls that it was
 //! told to fail.
 
+mod calls;
 mod failures;
 mod inputs;
+mod lists;
 mod outputs;
 mod readers;
+mod store;
 mod whole;
 mod writers;
 
+pub use calls::{ByNumber, Calls, ChangingCalls, StoreCalls};
 pub use failures::Failing;
 pub use inputs::MemSource;
 pub use outputs::MemSink;
 pub use readers::MemReader;
+pub use store::MemObjects;
 pub use whole::{Input, MemWorld};
 pub use writers::{MemObject, MemWriter};
