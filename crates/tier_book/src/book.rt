@@ -1,6 +1,6 @@
 //! The book of one worker.
 
-ghost use Rattle.std.specs.Prelude.{◌≡◌, ℕ, ◌≤◌, ◌<◌, ◌∷◌, [], ◌++◌, map, length, None, IfOk, OnOk, OnErr, is_some, IsTrue, option_map};
+ghost use Rattle.std.specs.Prelude.{◌≡◌, ℕ, ◌≤◌, ◌<◌, ◌^◌, ◌∷◌, [], ◌++◌, map, length, None, IfOk, OnOk, OnErr, is_some, IsTrue, option_map};
 ghost use Rattle.std.specs.Option.{IsSomeAnd};
 ghost use Rattle.fs_model.specs.Updates.{used};
 ghost use Rattle.tier_book.specs.Rows.{copied_of, room_row, free_at, fitting, next_number, room_numbered, rooms_without, row_of, row_numbered, rows_without, flagged};
@@ -44,18 +44,17 @@ impl Model for Book {
 }
 
 impl Book {
-    /// The book of a worker with tiers of these sizes in bytes, where nothing is reserved and no block is there.
+    /// The book of a worker with tiers of these sizes in bytes, where nothing is reserved and no block is there. Each
+    /// tier has a `TierNo`.
     ///
-    /// An `Err` is want of memory; more tiers than a `TierNo` can number count as that.
+    /// An `Err` is want of memory.
     pub fn new(alloc: Global, sizes: &[u64]) -> Result<Book, AllocError>
+        requires { length sizes.now < 2 ^ 32 }
         ensures sizes { IfOk result (λ book. book.sizes ≡ sizes.now) }
         ensures rooms { IfOk result (λ book. book.rooms ≡ []) }
         ensures rows { IfOk result (λ book. book.rows ≡ []) }
         ensures next { IfOk result (λ book. book.next ≡ 1) }
     {
-        if sizes.len() > u32::MAX as usize {
-            return Err(AllocError);
-        }
         let taken = vec![in alloc; 0; sizes.len()]?;
         Ok(Book {
             sizes: Vec::from_slice(alloc, sizes)?,
@@ -100,6 +99,13 @@ impl Book {
         ensures { map copied_of result.now ≡ self.now.rows }
     {
         &self.rows
+    }
+
+    /// The reservations in the order in which they were made.
+    pub fn rooms(&self) -> &[Room]
+        ensures { map room_row result.now ≡ self.now.rooms }
+    {
+        &self.rooms
     }
 
     /// The row of a block, if the worker has it.

@@ -92,6 +92,7 @@ fn reserved_bytes_are_not_free(rt: HostRuntime) -> Result<(), Fail> {
         assert_eq!(rt; reserve(&mut book, tier, n)?, number);
         assert_eq!(rt; free(&book, tier), left);
     }
+    assert_eq!(rt; book.rooms().len(), 4);
     for (room, there, first, second) in [
         (2, true, 0, 50),
         (2, false, 0, 50),
