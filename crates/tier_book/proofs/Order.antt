@@ -4,7 +4,7 @@ use Rattle.std.specs.List.{filter, find, range_with_len}
 use Rattle.std.proofs.lemmas.List.{append-nil, append_assoc, length-drop, map-append, map_push, map-set, length-map, length-take-le, get_or-map, get_or_at, set_at, take_more, drop_more, take_all, drop_all, take_at, drop_at, drop-drop, drop-take, take-take}
 use Rattle.std.proofs.lemmas.List.Elements.{filter_more}
 use Rattle.std.proofs.lemmas.List.Filters.{length-filter_both}
-use Rattle.std.proofs.lemmas.Bool.Decides.{eqb_tells, leb_tells}
+use Rattle.std.proofs.lemmas.Bool.Decides.{leb_tells}
 use Rattle.fs_model.specs.State.{Copied}
 use Rattle.fs_model.specs.Updates.{used}
 use Rattle.tier_book.specs.declared.row.BlockRow.{BlockRow}

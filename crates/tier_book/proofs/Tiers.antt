@@ -1,5 +1,5 @@
 -- The bytes of reservations and rows at the tiers, as `Freed` counts them.
-use Rattle.std.proofs.Common.{◌≡◌, ℕ, ◌+◌, ◌-◌, ◌<◌, ◌≤◌, Bool, true, false, cond, ◌&&◌, nat_eq, List, map, take, length, get_or, set, refl, ap, ◌∙◌}
+use Rattle.std.proofs.Common.{◌≡◌, ℕ, ◌+◌, ◌-◌, ◌<◌, ◌≤◌, Bool, true, false, cond, ◌&&◌, nat_eq, List, map, take, length, get_or, set, refl, ap}
 use Rattle.std.specs.List.{All}
 use Rattle.tier_book.specs.declared.room.Room.{Room}
 use Rattle.tier_book.specs.declared.row.BlockRow.{BlockRow}

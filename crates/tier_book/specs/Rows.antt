@@ -1,5 +1,5 @@
 -- What a book keeps, in the words of the file machine.
-use Rattle.std.specs.Prelude.{ℕ, ◌+◌, ◌-◌, ◌^◌, min, Bool, true, cond, not, ◌&&◌, List, ◌++◌, map, length, get_or, filter, nat_eq, nat_le, Option, sum_by, find}
+use Rattle.std.specs.Prelude.{ℕ, ◌+◌, ◌-◌, ◌^◌, min, Bool, true, cond, not, ◌&&◌, List, length, get_or, filter, nat_eq, nat_le, Option, sum_by, find}
 use Rattle.std.specs.List.{range_with_len}
 use Rattle.fs_model.specs.Words.{update_where}
 use Rattle.fs_model.specs.State.{Copied, RoomRow}

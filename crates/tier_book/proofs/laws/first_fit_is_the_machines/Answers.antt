@@ -1,4 +1,4 @@
-use Rattle.std.proofs.Common.{◌≡◌, ℕ, ◌-◌, get_or, length, nat_le, None, sym, ap, ◌∙◌}
+use Rattle.std.proofs.Common.{◌≡◌, ℕ, ◌-◌, get_or, length, nat_le, sym, ap, ◌∙◌}
 use Rattle.std.specs.List.{range_with_len, find}
 use Rattle.fs_model.specs.Lookups as machine
 use Rattle.tier_book.specs.Rows.{free_at, room_sum, row_sum}

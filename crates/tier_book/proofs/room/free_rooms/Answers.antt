@@ -1,4 +1,4 @@
-use Rattle.std.proofs.Common.{◌≡◌, true, false, nat_eq, sym, ◌∙◌}
+use Rattle.std.proofs.Common.{sym, ◌∙◌}
 use Rattle.tier_book.proofs.Tiers.{room_tier, room_taken, room_yes, room_no}
 use Rattle.tier_book.proofs.room.free_rooms.Goals as goal
 use Rattle.tier_book.proofs.room.free_rooms.Goals.{then-has, else-has}

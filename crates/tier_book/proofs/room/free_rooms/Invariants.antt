@@ -1,5 +1,4 @@
-use Rattle.std.proofs.Common.{map, take, nat_eq, cond, ℕ}
-use Rattle.fs_model.specs.State.{RoomRow}
+use Rattle.std.proofs.Common.{map, take}
 use Rattle.tier_book.specs.Rows.{room_row}
 use Rattle.tier_book.proofs.Tiers.{FreesRooms}
 use Rattle.tier_book.proofs.room.free_rooms.Given as goal

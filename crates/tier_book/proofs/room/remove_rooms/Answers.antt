@@ -1,4 +1,4 @@
-use Rattle.std.proofs.Common.{◌≡◌, map, not, nat_eq, ap, ◌∙◌, rules}
+use Rattle.std.proofs.Common.{map, not, nat_eq, ap, ◌∙◌, rules}
 use Rattle.std.proofs.lemmas.Fn.{filter_same}
 use Rattle.tier_book.specs.Rows.{room_row}
 use Rattle.tier_book.proofs.Changes.{filter-map}

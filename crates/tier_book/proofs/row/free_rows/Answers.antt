@@ -1,4 +1,4 @@
-use Rattle.std.proofs.Common.{◌≡◌, true, false, nat_eq, sym, ◌∙◌}
+use Rattle.std.proofs.Common.{sym, ◌∙◌}
 use Rattle.tier_book.proofs.Tiers.{row_tier, row_taken, row_yes, row_no}
 use Rattle.tier_book.proofs.row.free_rows.Goals as goal
 use Rattle.tier_book.proofs.row.free_rows.Goals.{then-is_of, else-is_of}

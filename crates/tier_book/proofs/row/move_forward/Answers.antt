@@ -1,6 +1,4 @@
-use Rattle.std.proofs.Common.{◌≡◌, ◌+◌, ◌-◌, ◌++◌, take, drop, length, sym, ap, ◌∙◌, arith}
-use Rattle.std.proofs.lemmas.List.{append_assoc}
-use Rattle.tier_book.proofs.Order.{turned, move_back}
+use Rattle.tier_book.proofs.Order.{move_back}
 use Rattle.tier_book.proofs.row.move_forward.Goals as goal
 
 pub returns : goal.returns

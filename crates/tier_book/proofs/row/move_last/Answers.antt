@@ -1,4 +1,4 @@
-use Rattle.std.proofs.Common.{◌≡◌, ◌≢◌, ◌≤◌, ℕ, Bool, true, false, nat_eq, inl, inr, length, sym, ap, ◌∙◌, arith}
+use Rattle.std.proofs.Common.{nat_eq, sym, ◌∙◌, arith}
 use Rattle.tier_book.specs.declared.row.BlockRow.{BlockRow}
 use Rattle.tier_book.proofs.Freed.{differ, alike}
 use Rattle.tier_book.proofs.Order.{parted_stays, parted_moves, parted_all}

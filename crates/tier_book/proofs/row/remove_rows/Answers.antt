@@ -1,4 +1,4 @@
-use Rattle.std.proofs.Common.{◌≡◌, map, not, ap, ◌∙◌, rules}
+use Rattle.std.proofs.Common.{map, not, ap, ◌∙◌, rules}
 use Rattle.std.proofs.lemmas.Fn.{filter_same}
 use Rattle.tier_book.specs.Rows.{copied_of, is_block}
 use Rattle.tier_book.proofs.Changes.{filter-map}

@@ -1,4 +1,4 @@
-use Rattle.std.proofs.Common.{◌≡◌, cond, true, false, sym, ap, ◌∙◌, refl}
+use Rattle.std.proofs.Common.{cond, sym, ap, ◌∙◌}
 use Rattle.tier_book.specs.Rows.{copied_of, is_block, with_flags}
 use Rattle.tier_book.proofs.Order.{flag_step}
 use Rattle.tier_book.proofs.row.set_flags.Goals as goal

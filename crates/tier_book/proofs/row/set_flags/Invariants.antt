@@ -1,4 +1,4 @@
-use Rattle.std.proofs.Common.{◌≡◌, ◌++◌, map, take, drop, length}
+use Rattle.std.proofs.Common.{◌≡◌, ◌++◌, map, take, drop}
 use Rattle.tier_book.specs.Rows.{copied_of, flagged}
 use Rattle.tier_book.proofs.row.set_flags.Given as goal
 

@@ -1,5 +1,5 @@
-use Rattle.std.proofs.Common.{◌≡◌, map, length, take, drop, sym, ap, ◌∙◌, arith}
-use Rattle.std.proofs.lemmas.List.{take_at, length-map}
+use Rattle.std.proofs.Common.{◌≡◌, map, length, drop, ap, arith}
+use Rattle.std.proofs.lemmas.List.{take_at}
 use Rattle.tier_book.specs.Rows.{copied_of, room_row}
 use Rattle.tier_book.proofs.Changes.{rooms_out}
 use Rattle.tier_book.proofs.book.Book.cancel.Goals as goal

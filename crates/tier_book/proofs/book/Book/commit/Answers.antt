@@ -1,6 +1,6 @@
-use Rattle.std.proofs.Common.{◌≡◌, ◌+◌, ◌<◌, ◌++◌, ◌∷◌, [], map, length, take, drop, get_or, sym, ap, ◌∙◌, subst, arith}
+use Rattle.std.proofs.Common.{◌≡◌, ◌<◌, ◌++◌, map, length, take, drop, get_or, sym, ap, ◌∙◌, subst, arith}
 use Rattle.std.proofs.lemmas.List.{take_at, map_push, length-map, length_push}
-use Rattle.tier_book.specs.Rows.{copied_of, room_row, rooms_without}
+use Rattle.tier_book.specs.Rows.{copied_of, room_row}
 use Rattle.tier_book.proofs.Changes.{rooms_out, commit_rests, row_in}
 use Rattle.tier_book.proofs.book.Book.commit.Goals as goal
 

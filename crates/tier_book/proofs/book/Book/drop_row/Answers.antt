@@ -1,4 +1,4 @@
-use Rattle.std.proofs.Common.{◌≡◌, map, length, take, drop, sym, ap, ◌∙◌, arith}
+use Rattle.std.proofs.Common.{◌≡◌, map, length, drop, ap, arith}
 use Rattle.std.proofs.lemmas.List.{take_at}
 use Rattle.tier_book.specs.Rows.{copied_of, room_row}
 use Rattle.tier_book.proofs.Changes.{rows_out}

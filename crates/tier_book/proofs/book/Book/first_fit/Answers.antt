@@ -1,4 +1,4 @@
-use Rattle.std.proofs.Common.{◌≡◌, nat_le, length, sym, ap, ◌∙◌, arith}
+use Rattle.std.proofs.Common.{nat_le, length, sym, ap, ◌∙◌, arith}
 use Rattle.tier_book.specs.Rows.{free_at}
 use Rattle.tier_book.proofs.Order.{fits_here, fits_later, leb_yes, leb_no}
 use Rattle.tier_book.proofs.book.Book.first_fit.Goals as goal
