@@ -4,4 +4,6 @@
 
 pub mod parts;
 pub mod pen;
+#[cfg(test)]
+mod tests;
 pub mod writer;
