@@ -1,5 +1,5 @@
 -- What a pen has, takes and counts.
-use Rattle.std.specs.Prelude.{ℕ, ◌≡◌, ◌≤◌, ◌+◌, ⊤, List, length, Option, None, Some, IfSome, option_map}
+use Rattle.std.specs.Prelude.{ℕ, ◌≡◌, ◌≤◌, ◌+◌, ⊤, Bool, false, List, length, Option, None, Some, IfSome, is_some}
 use Rattle.outside.specs.Streams.{Takes}
 use Rattle.outside.specs.declared.objects.ObjectWrite as writes
 use Rattle.file_writer.specs.declared.pen.Pen.{Pen}
@@ -21,6 +21,12 @@ abbrev pub pen_faults : {W : Type 0} → writes.Ghosts W → Pen W → ℕ
 pen_faults w (Open writer) = w.faults writer
 pen_faults w (Broken writer) = w.faults writer
 pen_faults w Gone = 0
+
+-- whether the pen's writer tells
+abbrev pub pen_tells : {W : Type 0} → writes.Ghosts W → Pen W → Bool
+pen_tells w (Open writer) = is_some (w.taken writer)
+pen_tells w (Broken writer) = is_some (w.taken writer)
+pen_tells w Gone = false
 
 -- an open pen takes so many bytes more without memory
 abbrev pub HasSpare : {W : Type 0} → writes.Ghosts W → ℕ → Pen W → Type 0

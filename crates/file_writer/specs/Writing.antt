@@ -1,5 +1,5 @@
 -- A file's writer as contracts see it, and what its calls do to it.
-use Rattle.std.specs.Prelude.{ℕ, ◌≡◌, ◌≤◌, ◌+◌, ◌-◌, ◌^◌, min, Bool, List, length, Option, None, Some, option_map, option_and_then}
+use Rattle.std.specs.Prelude.{ℕ, ◌≡◌, ◌+◌, ◌-◌, ◌^◌, min, Bool, List, length, Option, None, Some, option_and_then}
 use Rattle.fs_model.specs.BytesEvents.{block_wanted}
 use Rattle.outside.specs.declared.objects.ObjectWrite as writes
 use Rattle.file_writer.specs.declared.pen.Pen.TheVariants.{Gone}

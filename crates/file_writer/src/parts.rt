@@ -2,8 +2,8 @@
 
 ghost use Rattle.std.specs.Prelude.{◌≡◌, ◌≤◌, ◌<◌, ◌+◌, ◌^◌, length, IfSome, IsSomeAnd, OnOk};
 ghost use Rattle.outside.specs.Causes.{Rose};
-ghost use Rattle.file_writer.specs.Pens.{HasSpare, IsBroken, pen_faults};
-ghost use Rattle.file_writer.specs.Parts.{BlockStops, BlockTakes, ObjectBreaks, ObjectTakes, object_faults};
+ghost use Rattle.file_writer.specs.Pens.{HasSpare, IsBroken, pen_faults, pen_tells};
+ghost use Rattle.file_writer.specs.Parts.{BlockStops, BlockTakes, ObjectBreaks, ObjectTakes, object_faults, object_tells};
 ghost use Rattle.file_writer.specs.Fails.{IfBlock, IfObject};
 
 use crate::pen::Pen;
@@ -45,6 +45,8 @@ pub(crate) fn put_in<W: ObjectWrite>(
     requires object { IfSome object.old (λ o. HasSpare W.ObjectWrite (length piece.now) o.pen) }
     ensures block { OnOk result (BlockTakes W.ObjectWrite piece.now block.old block.new) }
     ensures object { OnOk result (ObjectTakes W.ObjectWrite piece.now object.old object.new) }
+    ensures block_tells { OnOk result (pen_tells W.ObjectWrite block.new.pen ≡ pen_tells W.ObjectWrite block.old.pen) }
+    ensures object_tells { OnOk result (object_tells W.ObjectWrite object.new ≡ object_tells W.ObjectWrite object.old) }
 
     ensures tier { IfBlock result (Rose (pen_faults W.ObjectWrite block.old.pen) (pen_faults W.ObjectWrite block.new.pen)) }
     ensures tier_stops { IfBlock result (BlockStops block.old block.new × (object.new ≡ object.old)) }

@@ -2,7 +2,7 @@
 
 ghost use Rattle.std.specs.Prelude.{◌≡◌, ◌≤◌, length, OnOk, OnErr};
 ghost use Rattle.outside.specs.Causes.{HasCause};
-ghost use Rattle.file_writer.specs.Pens.{HasSpare, IsBroken, IsOpen, PenKeeps, PenTakes, broken, pen_faults, pen_of, writer_of};
+ghost use Rattle.file_writer.specs.Pens.{HasSpare, IsBroken, IsOpen, PenKeeps, PenTakes, broken, pen_faults, pen_of, pen_tells, writer_of};
 
 use outside::objects::ObjectWrite;
 use outside::stream::Fault;
@@ -35,6 +35,7 @@ impl<W: ObjectWrite> Pen<W> {
     pub(crate) fn put(&mut self, piece: &[u8]) -> Result<(), Fault>
         requires { HasSpare W.ObjectWrite (length piece.now) self.old }
         ensures taken { OnOk result (PenTakes W.ObjectWrite piece.now self.old self.new) }
+        ensures tells { OnOk result (pen_tells W.ObjectWrite self.new ≡ pen_tells W.ObjectWrite self.old) }
         ensures broke { OnErr result (IsOpen self.old × IsBroken self.new) }
         ensures cause { HasCause (pen_faults W.ObjectWrite self.old) (pen_faults W.ObjectWrite self.new) result }
     {
@@ -84,6 +85,7 @@ impl<W: ObjectWrite> Pen<W> {
     pub(crate) fn reserve(&mut self, count: u64) -> Result<(), AllocError>
         ensures spare { OnOk result (HasSpare W.ObjectWrite count self.new) }
         ensures keeps { PenKeeps W.ObjectWrite self.old self.new }
+        ensures tells { pen_tells W.ObjectWrite self.new ≡ pen_tells W.ObjectWrite self.old }
     {
         match self {
             Pen::Open(writer) => writer.reserve(count),

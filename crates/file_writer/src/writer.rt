@@ -4,7 +4,7 @@ ghost use Rattle.std.specs.Prelude.{◌≡◌, ◌≤◌, ◌<◌, ◌+◌, ◌+
 ghost use Rattle.fs_model.specs.BytesOutcomes.{lacks};
 ghost use Rattle.outside.specs.Causes.{Rose};
 ghost use Rattle.file_writer.specs.Pens.{HasSpare, IsBroken, Tells, WriterHas};
-ghost use Rattle.file_writer.specs.Parts.{BlockStops, BlockTakes, ObjectBreaks, ObjectKeeps, ObjectTakes, block_faults, empty_block, object_faults, object_of, open_block};
+ghost use Rattle.file_writer.specs.Parts.{BlockStops, BlockTakes, ObjectBreaks, ObjectKeeps, ObjectTakes, block_faults, block_tells, empty_block, object_faults, object_of, object_tells, open_block};
 ghost use Rattle.file_writer.specs.Writing.{Stops, TakesPiece, block_writer, counted, number_of, object_writer, wants_room, without_writer};
 ghost use Rattle.file_writer.specs.Steps.{IfTaken, IfTierFault, IfUnderFault, OnNeedsRoom, fault_of};
 ghost use Rattle.file_writer.specs.Taken.{HasTaken, open_bytes};
@@ -123,6 +123,10 @@ impl<T: ObjectWrite> FileWriter<T> {
         ensures taken { IfTaken result (λ n. TakesPiece T.ObjectWrite (take n piece.now) self.old self.new) }
         ensures bytes { (bytes : List ℕ) → HasTaken T.ObjectWrite self.old bytes → IfTaken result (λ n. HasTaken T.ObjectWrite self.new (bytes ++ take n piece.now)) }
 
+        // Whether its writers tell stays.
+        ensures block_tells { IfTaken result (λ _. block_tells T.ObjectWrite self.new.block ≡ block_tells T.ObjectWrite self.old.block) }
+        ensures object_tells { IfTaken result (λ _. object_tells T.ObjectWrite self.new.object ≡ object_tells T.ObjectWrite self.old.object) }
+
         ensures tier { IfTierFault result (λ worker. (worker ≡ number_of self.old.worker) × Rose (block_faults T.ObjectWrite self.old.block) (block_faults T.ObjectWrite self.new.block)) }
         ensures tier_stops { IfTierFault result (λ _. Stops self.old self.new × (self.new.object ≡ self.old.object)) }
         ensures under { IfUnderFault result (λ store. IsSomeAnd self.old.object (λ o. store ≡ o.store) × Rose (object_faults T.ObjectWrite self.old.object) (object_faults T.ObjectWrite self.new.object)) }
@@ -204,6 +208,7 @@ impl<T: ObjectWrite> FileWriter<T> {
         ensures none { self.old.object ≡ None → IsOk result }
         ensures fields { self.new ≡ record self.old { object = self.new.object } }
         ensures object { ObjectKeeps T.ObjectWrite self.old.object self.new.object }
+        ensures tells { object_tells T.ObjectWrite self.new.object ≡ object_tells T.ObjectWrite self.old.object }
         ensures bytes { (bytes : List ℕ) → HasTaken T.ObjectWrite self.old bytes → HasTaken T.ObjectWrite self.new bytes }
     {
         match &mut self.object {
