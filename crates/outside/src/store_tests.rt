@@ -61,13 +61,13 @@ fn append_object(text: &mut Vec<u8>, object: &MemObject) -> Result<(), AllocErro
     Ok(())
 }
 
-/// All that a store holds, as one text.
-fn listing(alloc: Global, store: &MemObjects) -> Result<Vec<u8>, AllocError> {
+/// Whether this text tells all that a store holds.
+fn holds(alloc: Global, store: &MemObjects, want: &str) -> Result<bool, AllocError> {
     let mut text = Vec::new(alloc);
     for object in &store.objects {
         append_object(&mut text, object)?;
     }
-    Ok(text)
+    Ok(text.as_slice() == want.as_bytes())
 }
 
 /// What polls with this room give: the bytes, `~` where one wasn't ready, `!` where one failed, and
@@ -80,11 +80,11 @@ fn polled<R: ObjectRead>(
 ) -> Result<Vec<u8>, AllocError> {
     let mut text = Vec::new(alloc);
     for _ in 0..polls {
-        let mut buf = [b'-'; 8];
         if reader.due() == 0 {
             text.push(b'.')?;
             continue;
         }
+        let mut buf = [b'-'; 8];
         match reader.poll_read(&mut buf[..room.clamp(1, 8)]) {
             Got::Bytes(count) => text.extend_from_slice(&buf[..count])?,
             Got::NotReady => text.push(b'~')?,
@@ -92,6 +92,17 @@ fn polled<R: ObjectRead>(
         }
     }
     Ok(text)
+}
+
+/// Whether this is what polls with this room give.
+fn gives<R: ObjectRead>(
+    alloc: Global,
+    reader: &mut R,
+    polls: u32,
+    room: usize,
+    want: &str,
+) -> Result<bool, AllocError> {
+    Ok(polled(alloc, reader, polls, room)?.as_slice() == want.as_bytes())
 }
 
 /// Writes a text to a key, as a program does that knows the trait alone.
@@ -104,16 +115,90 @@ fn write_object<O: Objects>(objects: &mut O, key: Key, text: &str) -> Result<(),
     Ok(())
 }
 
-/// Reads a range of an object so.
-fn read_object<O: Objects>(
+/// Whether three polls of a range of an object give this, read so.
+fn reads_as<O: Objects>(
     alloc: Global,
     objects: &mut O,
     key: &Key,
     at: u64,
     len: u64,
-) -> Result<Vec<u8>, Fail> {
+    want: &str,
+) -> Result<bool, Fail> {
     let mut reader = objects.begin_read(key, at, len)?;
-    Ok(polled(alloc, &mut reader, 3, 4)?)
+    Ok(gives(alloc, &mut reader, 3, 4, want)?)
+}
+
+fn writes(alloc: Global, store: &mut MemObjects, key: &str, text: &str) -> Result<(), Fail> {
+    write_object(store, key_of(alloc, key)?, text)
+}
+
+fn reads(
+    alloc: Global,
+    store: &mut MemObjects,
+    key: &str,
+    at: u64,
+    len: u64,
+    want: &str,
+) -> Result<bool, Fail> {
+    reads_as(alloc, store, &key_of(alloc, key)?, at, len, want)
+}
+
+fn begins(alloc: Global, store: &mut MemObjects, key: &str, len: u64) -> Result<MemReader, Fail> {
+    store.begin_read(&key_of(alloc, key)?, 0, len)
+}
+
+fn renames(alloc: Global, store: &mut MemObjects, from: &str, to: &str) -> Result<bool, Fail> {
+    let from = key_of(alloc, from)?;
+    match store.rename(&from, key_of(alloc, to)?) {
+        Ok(there) => Ok(there),
+        Err(Fault) => Err(Fail::Failed),
+    }
+}
+
+fn removes(alloc: Global, store: &mut MemObjects, key: &str) -> Result<bool, Fail> {
+    match store.remove(&key_of(alloc, key)?) {
+        Ok(there) => Ok(there),
+        Err(Fault) => Err(Fail::Failed),
+    }
+}
+
+/// Whether the next key is this one, with this length, or there is none for an empty text.
+fn finds(
+    alloc: Global,
+    store: &mut MemObjects,
+    under: &str,
+    after: &str,
+    want: &str,
+    len: u64,
+) -> Result<bool, Fail> {
+    let under = key_of(alloc, under)?;
+    let after = key_of(alloc, after)?;
+    match store.next_key(&under, Some(&after))? {
+        None => Ok(want.is_empty()),
+        Some((key, found_len)) => Ok(key == key_of(alloc, want)? && found_len == len),
+    }
+}
+
+/// The length of the object with the least key of all, if there is one.
+fn first_len(alloc: Global, store: &mut MemObjects) -> Result<Option<u64>, Fail> {
+    match store.next_key(&Key::from_names(Vec::new(alloc)), None)? {
+        None => Ok(None),
+        Some((key, len)) => {
+            drop(key);
+            Ok(Some(len))
+        }
+    }
+}
+
+/// The order of two keys, and whether the first is below the second, and whether they cross.
+fn compared(
+    alloc: Global,
+    first: &str,
+    second: &str,
+) -> Result<(Ordering, bool, bool), AllocError> {
+    let key = key_of(alloc, first)?;
+    let other = key_of(alloc, second)?;
+    Ok((key.cmp(&other), key.is_below(&other), key.crosses(&other)))
 }
 
 #[test]
@@ -128,15 +213,17 @@ fn keys_are_ordered_by_their_bytes_and_cross_where_one_is_a_prefix(
         ("ab", "a", Ordering::Greater, false, false),
         ("n/10", "n/2", Ordering::Less, false, false),
     ] {
-        let key = key_of(rt.alloc(), first)?;
-        let other = key_of(rt.alloc(), second)?;
-        assert_eq!(rt; key.cmp(&other), order, "{first} {second}");
-        assert_eq!(rt; key == other, order == Ordering::Equal);
-        assert_eq!(rt; key.is_below(&other), below);
-        assert_eq!(rt; key.crosses(&other), crosses);
+        let got = compared(rt.alloc(), first, second)?;
+        assert_eq!(rt; got, (order, below, crosses), "{first} {second}");
     }
+    Ok(())
+}
+
+#[test]
+fn two_numbers_are_a_key(rt: HostRuntime) -> Result<(), Failure> {
     let key = Key::of_numbers(rt.alloc(), 7, 10)?;
-    assert!(rt; key.clone()? == key_of(rt.alloc(), "7/10")?);
+    let same = key.clone()? == key_of(rt.alloc(), "7/10")?;
+    assert!(rt; same);
     Ok(())
 }
 
@@ -145,8 +232,7 @@ fn polls_give_bytes_or_wait_or_fail(rt: HostRuntime) -> Result<(), Failure> {
     let mut reader = MemReader::new(Vec::from_slice(rt.alloc(), b"abcdefg")?);
     reader.waiting = Failing::listed(rt.alloc(), &[2, 4])?;
     reader.failing = Failing::listed(rt.alloc(), &[5, 4])?;
-    let text = polled(rt.alloc(), &mut reader, 7, 3)?;
-    assert_eq!(rt; text.as_slice(), b"abc~def!!g.".as_slice());
+    assert!(rt; gives(rt.alloc(), &mut reader, 7, 3, "abc~def!!g.")?);
     assert_eq!(rt; (reader.calls, reader.faults, reader.waits), (6, 2, 1));
     Ok(())
 }
@@ -171,23 +257,18 @@ fn puts_take_whole_pieces_or_fail(rt: HostRuntime) -> Result<(), Failure> {
 }
 
 #[test]
-fn what_is_written_is_read_moved_found_and_removed(rt: HostRuntime) -> Result<(), Failure> {
-    let mut store = MemObjects::new(rt.alloc());
-    let first = key_of(rt.alloc(), "a/b")?;
-    let second = key_of(rt.alloc(), "a/c")?;
-    write_object(&mut store, first.clone()?, "old")?;
-    write_object(&mut store, first.clone()?, "text")?;
-    let text = read_object(rt.alloc(), &mut store, &first, 1, 2)?;
-    assert_eq!(rt; text.as_slice(), b"ex..".as_slice());
-    assert_eq!(rt; store.rename(&first, second.clone()?), Ok(true));
-    assert_eq!(rt; store.rename(&first, second.clone()?), Ok(false));
-    assert_eq!(rt;
-        listing(rt.alloc(), &store)?.as_slice(),
-        b"a/c/=text ".as_slice()
-    );
-    assert_eq!(rt; store.remove(&first), Ok(false));
-    assert_eq!(rt; store.remove(&second), Ok(true));
-    write_object(&mut store, first, "x")?;
+fn what_is_written_is_read_moved_and_removed(rt: HostRuntime) -> Result<(), Failure> {
+    let alloc = rt.alloc();
+    let mut store = MemObjects::new(alloc);
+    assert_eq!(rt; writes(alloc, &mut store, "a/b", "old"), Ok(()));
+    assert_eq!(rt; writes(alloc, &mut store, "a/b", "text"), Ok(()));
+    assert_eq!(rt; reads(alloc, &mut store, "a/b", 1, 2, "ex.."), Ok(true));
+    assert_eq!(rt; renames(alloc, &mut store, "a/b", "a/c"), Ok(true));
+    assert_eq!(rt; renames(alloc, &mut store, "a/b", "a/c"), Ok(false));
+    assert_eq!(rt; holds(alloc, &store, "a/c/=text "), Ok(true));
+    assert_eq!(rt; removes(alloc, &mut store, "a/b"), Ok(false));
+    assert_eq!(rt; removes(alloc, &mut store, "a/c"), Ok(true));
+    assert_eq!(rt; writes(alloc, &mut store, "a", "x"), Ok(()));
     assert_eq!(rt; store.clear(), Ok(()));
     assert!(rt; store.objects.is_empty());
     assert_eq!(rt; (store.faults, store.misses, store.changes), (0, 0, 6));
@@ -198,19 +279,18 @@ fn what_is_written_is_read_moved_found_and_removed(rt: HostRuntime) -> Result<()
 fn reads_fail_where_listed_and_at_a_miss(rt: HostRuntime) -> Result<(), Failure> {
     let mut store = store_of(rt.alloc(), &[("a", "text")])?;
     store.calls.begin_reads.failing = failing_of(rt.alloc(), &[2, 4], 7)?;
-    for (key, at, len, fails, faults, misses) in [
-        ("a", 0, 4, false, 0, 0),
-        ("a", 0, 4, true, 1, 0),
-        ("a", 2, 3, true, 1, 1),
-        ("b", 0, 0, true, 2, 2),
-        ("a", u64::MAX, u64::MAX, true, 2, 3),
-        ("a", 4, 0, false, 2, 3),
-        ("a", 0, 1, true, 3, 3),
-        ("a", 0, 1, true, 4, 3),
+    for (key, at, len, want, faults, misses) in [
+        ("a", 0, 4, Ok(true), 0, 0),
+        ("a", 0, 4, Err(Fail::Failed), 1, 0),
+        ("a", 2, 3, Err(Fail::Failed), 1, 1),
+        ("b", 0, 0, Err(Fail::Failed), 2, 2),
+        ("a", u64::MAX, u64::MAX, Err(Fail::Failed), 2, 3),
+        ("a", 4, 0, Ok(false), 2, 3),
+        ("a", 0, 4, Err(Fail::Failed), 3, 3),
+        ("a", 0, 4, Err(Fail::Failed), 4, 3),
     ] {
-        let key = key_of(rt.alloc(), key)?;
-        let failed = matches!(store.begin_read(&key, at, len), Err(Fail::Failed));
-        assert_eq!(rt; failed, fails, "{at} {len}");
+        let got = reads(rt.alloc(), &mut store, key, at, len, "text..");
+        assert_eq!(rt; got, want, "{at} {len}");
         assert_eq!(rt; (store.faults, store.misses), (faults, misses));
     }
     assert_eq!(rt; (store.calls.begin_reads.count, store.changes), (8, 0));
@@ -222,10 +302,9 @@ fn each_reader_has_its_own_polls(rt: HostRuntime) -> Result<(), Failure> {
     let mut store = store_of(rt.alloc(), &[("a", "text")])?;
     store.calls.failing_polls = by_number(rt.alloc(), 2, &[1])?;
     store.calls.waiting_polls = by_number(rt.alloc(), 1, &[1, 2])?;
-    let key = key_of(rt.alloc(), "a")?;
     for want in ["~~text", "!text.", "text.."] {
-        let text = read_object(rt.alloc(), &mut store, &key, 0, 4)?;
-        assert_eq!(rt; text.as_slice(), want.as_bytes());
+        let got = reads(rt.alloc(), &mut store, "a", 0, 4, want);
+        assert_eq!(rt; got, Ok(true), "{want}");
     }
     Ok(())
 }
@@ -243,14 +322,10 @@ fn each_writer_has_its_own_puts(rt: HostRuntime) -> Result<(), Failure> {
         ("e", Err(Fail::Failed)),
         ("f", Err(Fail::Failed)),
     ] {
-        let key = key_of(rt.alloc(), key)?;
-        assert_eq!(rt; write_object(&mut store, key, "x"), want);
+        assert_eq!(rt; writes(rt.alloc(), &mut store, key, "x"), want, "{key}");
     }
     assert_eq!(rt; (store.faults, store.calls.begin_writes.count), (3, 6));
-    assert_eq!(rt;
-        listing(rt.alloc(), &store)?.as_slice(),
-        b"d/=x a/=x ".as_slice()
-    );
+    assert!(rt; holds(rt.alloc(), &store, "d/=x a/=x ")?);
     Ok(())
 }
 
@@ -270,12 +345,11 @@ fn an_end_fails_where_listed_and_happens_where_told(rt: HostRuntime) -> Result<(
         ("f", true, 4, 2),
         ("g", true, 5, 2),
     ] {
-        let key = key_of(rt.alloc(), key)?;
-        assert_eq!(rt; write_object(&mut store, key, "x").is_err(), fails);
+        let got = writes(rt.alloc(), &mut store, key, "x").is_err();
+        assert_eq!(rt; got, fails, "{key}");
         assert_eq!(rt; (store.faults, store.misses), (faults, misses));
     }
-    let text = listing(rt.alloc(), &store)?;
-    assert_eq!(rt; text.as_slice(), b"g/=x e/=x m/n/=x c/=x a/=x ".as_slice());
+    assert!(rt; holds(rt.alloc(), &store, "g/=x e/=x m/n/=x c/=x a/=x ")?);
     assert_eq!(rt; (store.calls.finishes.count, store.changes), (9, 5));
     Ok(())
 }
@@ -287,22 +361,20 @@ fn a_rename_fails_where_listed_and_happens_where_told(rt: HostRuntime) -> Result
     store.calls.renames.happening = Failing::listed(rt.alloc(), &[3, 9])?;
     for (from, to, want, faults, misses) in [
         ("a", "b", Ok(true), 0, 0),
-        ("b", "c", Err(Fault), 1, 0),
-        ("b", "d", Err(Fault), 2, 0),
-        ("d", "m", Err(Fault), 2, 1),
+        ("b", "c", Err(Fail::Failed), 1, 0),
+        ("b", "d", Err(Fail::Failed), 2, 0),
+        ("d", "m", Err(Fail::Failed), 2, 1),
         ("m/n", "m", Ok(true), 2, 1),
-        ("d", "m/o", Err(Fault), 2, 2),
+        ("d", "m/o", Err(Fail::Failed), 2, 2),
         ("x", "m/o", Ok(false), 2, 2),
-        ("m", "e", Err(Fault), 3, 2),
-        ("m", "f", Err(Fault), 4, 2),
+        ("m", "e", Err(Fail::Failed), 3, 2),
+        ("m", "f", Err(Fail::Failed), 4, 2),
     ] {
-        let from = key_of(rt.alloc(), from)?;
-        let to = key_of(rt.alloc(), to)?;
-        assert_eq!(rt; store.rename(&from, to), want);
+        let got = renames(rt.alloc(), &mut store, from, to);
+        assert_eq!(rt; got, want, "{from} {to}");
         assert_eq!(rt; (store.faults, store.misses), (faults, misses));
     }
-    let text = listing(rt.alloc(), &store)?;
-    assert_eq!(rt; text.as_slice(), b"f/=3 d/=1 ".as_slice());
+    assert!(rt; holds(rt.alloc(), &store, "f/=3 d/=1 ")?);
     assert_eq!(rt; (store.calls.renames.count, store.changes), (9, 4));
     Ok(())
 }
@@ -317,25 +389,18 @@ fn a_removal_fails_where_listed_and_happens_where_told(rt: HostRuntime) -> Resul
     store.calls.removes.happening = Failing::listed(rt.alloc(), &[3])?;
     for (key, want, faults) in [
         ("a", Ok(true), 0),
-        ("b", Err(Fault), 1),
-        ("c", Err(Fault), 2),
+        ("b", Err(Fail::Failed), 1),
+        ("c", Err(Fail::Failed), 2),
         ("c", Ok(false), 2),
         ("d", Ok(true), 2),
-        ("b", Err(Fault), 3),
-        ("b", Err(Fault), 4),
+        ("b", Err(Fail::Failed), 3),
+        ("b", Err(Fail::Failed), 4),
     ] {
-        let key = key_of(rt.alloc(), key)?;
-        assert_eq!(rt; store.remove(&key), want);
-        assert_eq!(rt; store.faults, faults);
+        assert_eq!(rt; removes(rt.alloc(), &mut store, key), want, "{key}");
+        assert_eq!(rt; (store.faults, store.misses), (faults, 0));
     }
-    assert_eq!(rt;
-        listing(rt.alloc(), &store)?.as_slice(),
-        b"b/=2 ".as_slice()
-    );
-    assert_eq!(rt;
-        (store.calls.removes.count, store.misses, store.changes),
-        (7, 0, 3)
-    );
+    assert!(rt; holds(rt.alloc(), &store, "b/=2 ")?);
+    assert_eq!(rt; (store.calls.removes.count, store.changes), (7, 3));
     Ok(())
 }
 
@@ -360,54 +425,28 @@ fn a_clear_that_fails_removes_one_object(rt: HostRuntime) -> Result<(), Failure>
 
 #[test]
 fn no_change_is_made_that_can_not_be_counted(rt: HostRuntime) -> Result<(), Failure> {
-    let mut store = store_of(rt.alloc(), &[("a", "1")])?;
+    let alloc = rt.alloc();
+    let mut store = store_of(alloc, &[("a", "1")])?;
     store.changes = u64::MAX;
-    let key = key_of(rt.alloc(), "a")?;
-    assert_eq!(rt;
-        write_object(&mut store, key.clone()?, "2"),
-        Err(Fail::Failed)
-    );
-    assert_eq!(rt; store.rename(&key, key.clone()?), Err(Fault));
-    assert_eq!(rt; store.remove(&key), Err(Fault));
+    assert_eq!(rt; writes(alloc, &mut store, "a", "2"), Err(Fail::Failed));
+    assert_eq!(rt; renames(alloc, &mut store, "a", "b"), Err(Fail::Failed));
+    assert_eq!(rt; removes(alloc, &mut store, "a"), Err(Fail::Failed));
     assert_eq!(rt; store.clear(), Err(Fault));
-    assert_eq!(rt;
-        listing(rt.alloc(), &store)?.as_slice(),
-        b"a/=1 ".as_slice()
-    );
+    assert_eq!(rt; holds(alloc, &store, "a/=1 "), Ok(true));
     assert_eq!(rt; (store.faults, store.changes), (4, u64::MAX));
     Ok(())
 }
 
-/// Whether the next key is this one, with this length, or there is none for an empty text.
-fn finds(
-    alloc: Global,
-    store: &mut MemObjects,
-    under: &str,
-    after: &str,
-    want: &str,
-    len: u64,
-) -> Result<bool, Fail> {
-    let under = key_of(alloc, under)?;
-    let after = key_of(alloc, after)?;
-    let want_key = key_of(alloc, want)?;
-    match store.next_key(&under, Some(&after))? {
-        None => Ok(want.is_empty()),
-        Some((key, found_len)) => Ok(key == want_key && found_len == len),
-    }
-}
-
 #[test]
 fn keys_are_found_in_the_order_of_their_bytes(rt: HostRuntime) -> Result<(), Failure> {
-    let mut store = store_of(
-        rt.alloc(),
-        &[
-            ("n/2", "two"),
-            ("m", ""),
-            ("n/10", "ten10"),
-            ("na", "x"),
-            ("n/1/x", "y"),
-        ],
-    )?;
+    let held = [
+        ("n/2", "two"),
+        ("m", ""),
+        ("n/10", "ten10"),
+        ("na", "x"),
+        ("n/1/x", "y"),
+    ];
+    let mut store = store_of(rt.alloc(), &held)?;
     for (under, after, want, len) in [
         ("n", "a", "n/1/x", 1),
         ("n", "n/1/x", "n/10", 5),
@@ -417,53 +456,73 @@ fn keys_are_found_in_the_order_of_their_bytes(rt: HostRuntime) -> Result<(), Fai
         ("n/3", "a", "", 0),
         ("m", "a", "m", 0),
     ] {
-        let found = finds(rt.alloc(), &mut store, under, after, want, len)?;
-        assert!(rt; found, "{under} {after}");
+        let found = finds(rt.alloc(), &mut store, under, after, want, len);
+        assert_eq!(rt; found, Ok(true), "{under} {after}");
     }
-    let root = Key::from_names(Vec::new(rt.alloc()));
-    let first = store.next_key(&root, None)?;
-    assert!(rt; first.is_some_and(|found| found.1 == 0));
-    store.calls.next_keys.failing = failing_of(rt.alloc(), &[9], 11)?;
-    for fails in [true, false, true, true] {
-        let failed = matches!(store.next_key(&root, None), Err(Fail::Failed));
-        assert_eq!(rt; failed, fails);
+    assert_eq!(rt; (store.calls.next_keys.count, store.changes), (7, 0));
+    Ok(())
+}
+
+#[test]
+fn a_search_for_a_key_fails_where_listed(rt: HostRuntime) -> Result<(), Failure> {
+    let mut store = store_of(rt.alloc(), &[("b", "22"), ("a", "1")])?;
+    store.calls.next_keys.failing = failing_of(rt.alloc(), &[2], 4)?;
+    for want in [
+        Ok(Some(1)),
+        Err(Fail::Failed),
+        Ok(Some(1)),
+        Err(Fail::Failed),
+        Err(Fail::Failed),
+    ] {
+        assert_eq!(rt; first_len(rt.alloc(), &mut store), want);
     }
     assert_eq!(rt; (store.faults, store.misses, store.changes), (3, 0, 0));
     Ok(())
 }
 
+/// What befalls an object whose reader goes on.
+#[derive(Debug, Clone, Copy)]
+enum Change {
+    Replaced,
+    Renamed,
+    Removed,
+    Cleared,
+}
+
+/// Whether it could be done.
+fn befalls(alloc: Global, store: &mut MemObjects, change: Change) -> bool {
+    match change {
+        Change::Replaced => writes(alloc, store, "a", "new").is_ok(),
+        Change::Renamed => renames(alloc, store, "a", "b").is_ok(),
+        Change::Removed => removes(alloc, store, "a").is_ok(),
+        Change::Cleared => store.clear().is_ok(),
+    }
+}
+
+/// Whether a reader gives what its object had, whatever befalls it after the first byte.
+fn goes_on(alloc: Global, store: &mut MemObjects, change: Change) -> Result<bool, Fail> {
+    let mut reader = begins(alloc, store, "a", 4)?;
+    let first = gives(alloc, &mut reader, 1, 1, "t")?;
+    let done = befalls(alloc, store, change);
+    let rest = gives(alloc, &mut reader, 2, 8, "ext.")?;
+    Ok(first && done && rest)
+}
+
 #[test]
 fn a_reader_goes_on_whatever_befalls_its_object(rt: HostRuntime) -> Result<(), Failure> {
-    let mut store = store_of(rt.alloc(), &[("a", "text")])?;
-    let key = key_of(rt.alloc(), "a")?;
-    let other = key_of(rt.alloc(), "b")?;
-    let mut replaced = store.begin_read(&key, 0, 4)?;
-    assert_eq!(rt;
-        polled(rt.alloc(), &mut replaced, 1, 1)?.as_slice(),
-        b"t".as_slice()
-    );
-    write_object(&mut store, key.clone()?, "new")?;
-    assert_eq!(rt;
-        polled(rt.alloc(), &mut replaced, 1, 8)?.as_slice(),
-        b"ext".as_slice()
-    );
-    let mut renamed = store.begin_read(&key, 0, 3)?;
-    assert_eq!(rt; store.rename(&key, other.clone()?), Ok(true));
-    assert_eq!(rt;
-        polled(rt.alloc(), &mut renamed, 1, 8)?.as_slice(),
-        b"new".as_slice()
-    );
-    let mut removed = store.begin_read(&other, 1, 2)?;
-    let mut cleared = store.begin_read(&other, 0, 1)?;
-    assert_eq!(rt; store.remove(&other), Ok(true));
-    assert_eq!(rt;
-        polled(rt.alloc(), &mut removed, 1, 8)?.as_slice(),
-        b"ew".as_slice()
-    );
-    assert_eq!(rt; store.clear(), Ok(()));
-    assert_eq!(rt;
-        polled(rt.alloc(), &mut cleared, 1, 8)?.as_slice(),
-        b"n".as_slice()
-    );
+    for change in [
+        Change::Replaced,
+        Change::Renamed,
+        Change::Removed,
+        Change::Cleared,
+    ] {
+        let mut store = store_of(rt.alloc(), &[("a", "text")])?;
+        assert_eq!(rt;
+            goes_on(rt.alloc(), &mut store, change),
+            Ok(true),
+            "{change:?}"
+        );
+        assert_eq!(rt; store.changes, 1);
+    }
     Ok(())
 }

@@ -1,6 +1,6 @@
 //! The book of one worker.
 
-ghost use Rattle.std.specs.Prelude.{◌≡◌, ℕ, ◌≤◌, ◌<◌, ◌^◌, ◌∷◌, [], ◌++◌, map, length, None, IfOk, OnOk, OnErr, is_some, IsTrue, option_map};
+ghost use Rattle.std.specs.Prelude.{◌≡◌, ℕ, ◌≤◌, ◌<◌, ◌^◌, ◌∷◌, [], ◌++◌, map, length, None, IfSome, IfOk, OnOk, OnErr, is_some, IsTrue, option_map};
 ghost use Rattle.std.specs.Option.{IsSomeAnd};
 ghost use Rattle.fs_model.specs.Updates.{used};
 ghost use Rattle.tier_book.specs.Rows.{copied_of, room_row, free_at, fitting, next_number, room_numbered, rooms_without, row_of, row_numbered, rows_without, flagged};
@@ -84,7 +84,8 @@ impl Book {
 
     /// The first tier at which at least `n` bytes are free; `None` where there is none.
     pub fn first_fit(&self, n: u64) -> Option<TierNo>
-        ensures { result ≡ fitting self.now n }
+        ensures first { result ≡ fitting self.now n }
+        ensures fits { IfSome result (λ t. (t < length self.now.sizes) × (n ≤ free_at self.now t)) }
     {
         for tier in 0..self.sizes.len() as u32 {
             if self.free_bytes(TierNo(tier)) >= n {

@@ -1,6 +1,6 @@
 //! The writers of a store in memory, and the objects that they make.
 
-ghost use Rattle.std.specs.Prelude.{◌≡◌, ◌≤◌, ◌+◌, ◌-◌, ◌∷◌, [], None, Some, length, IfOk, OnOk, OnErr, is_err, vec_len, vec_capacity};
+ghost use Rattle.std.specs.Prelude.{◌≡◌, ◌≤◌, ◌+◌, ◌-◌, ◌∷◌, [], None, Some, length, IfOk, OnOk, OnErr, IsOk, is_err, vec_len, vec_capacity};
 ghost use Rattle.std.specs.LinkedList.{linked_list_len};
 ghost use Rattle.outside.specs.Causes.{HasCause, next_count};
 ghost use Rattle.outside.specs.Counts.{counted};
@@ -84,7 +84,17 @@ impl ObjectWrite for MemWriter {
 
     ghost faults = { λ writer. writer.faults };
 
-    fn reserve(&mut self, count: u64) -> Result<(), AllocError> {
+    /// Fails for want of memory alone, which doesn't come while so many bytes fit.
+    fn reserve(&mut self, count: u64) -> Result<(), AllocError>
+        ensures spare { OnOk result (count ≤ vec_capacity self.new.bytes - length self.new.bytes.items) }
+        ensures no_less { vec_capacity self.old.bytes - length self.old.bytes.items ≤ vec_capacity self.new.bytes - length self.new.bytes.items }
+        ensures taken { Some self.new.bytes.items ≡ Some self.old.bytes.items }
+        ensures written { length self.new.bytes.items ≡ length self.old.bytes.items }
+        ensures faults { self.new.faults ≡ self.old.faults }
+
+        ensures fits { count ≤ vec_capacity self.old.bytes - length self.old.bytes.items → IsOk result }
+        ensures kept { (self.new.failing ≡ self.old.failing) × (self.new.calls ≡ self.old.calls) }
+    {
         self.bytes.try_reserve(count as usize)
     }
 
