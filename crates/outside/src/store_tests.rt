@@ -237,19 +237,32 @@ fn polls_give_bytes_or_wait_or_fail(rt: HostRuntime) -> Result<(), Failure> {
     Ok(())
 }
 
+/// A writer of which the listed puts fail, and all from one number on.
+fn writer_of(alloc: Global, calls: &[u64], from: u64) -> Result<MemWriter, AllocError> {
+    let mut writer = MemWriter::new(alloc)?;
+    writer.failing = failing_of(alloc, calls, from)?;
+    Ok(writer)
+}
+
+fn puts(writer: &mut MemWriter, piece: &str) -> Result<(), Fail> {
+    writer.reserve(piece.len() as u64)?;
+    match writer.put(piece.as_bytes()) {
+        Ok(()) => Ok(()),
+        Err(Fault) => Err(Fail::Failed),
+    }
+}
+
 #[test]
 fn puts_take_whole_pieces_or_fail(rt: HostRuntime) -> Result<(), Failure> {
-    let mut writer = MemWriter::new(rt.alloc())?;
-    writer.failing = failing_of(rt.alloc(), &[2], 4)?;
+    let mut writer = writer_of(rt.alloc(), &[2], 4)?;
     for (piece, want) in [
         ("ab", Ok(())),
-        ("cd", Err(Fault)),
+        ("cd", Err(Fail::Failed)),
         ("cde", Ok(())),
-        ("f", Err(Fault)),
-        ("f", Err(Fault)),
+        ("f", Err(Fail::Failed)),
+        ("f", Err(Fail::Failed)),
     ] {
-        writer.reserve(piece.len() as u64)?;
-        assert_eq!(rt; writer.put(piece.as_bytes()), want, "{piece}");
+        assert_eq!(rt; puts(&mut writer, piece), want, "{piece}");
     }
     assert_eq!(rt; writer.bytes.as_slice(), b"abcde".as_slice());
     assert_eq!(rt; (writer.len(), writer.calls, writer.faults), (5, 5, 3));
