@@ -22,7 +22,7 @@ use crate::world::Fail;
 use std::alloc::{AllocError, Global};
 use std::collections::LinkedList;
 
-/// The most objects that a list can have and still take one more.
+/// The most objects that a list can have.
 const MOST_OBJECTS: usize = 0x7fff_ffff_ffff_ffff;
 
 /// A store of objects in memory, which tells all that it holds.
