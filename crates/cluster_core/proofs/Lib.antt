@@ -4,3 +4,4 @@ pub mod HandLists
 pub mod LabelLaws
 pub mod Places
 pub mod NamesSteps
+pub mod Rooms

@@ -6,3 +6,5 @@ pub mod Names
 pub mod NamesStand
 pub mod Tests
 pub mod Laws
+pub mod Tiers
+pub mod Nodes

@@ -1,6 +1,7 @@
 -- What stays true of a book when it changes.
-use Rattle.std.proofs.Common.{◌≡◌, ℕ, ◌+◌, ◌-◌, ◌<◌, ◌≤◌, Bool, true, false, cond, not, inl, inr, List, [], ◌∷◌, ◌++◌, map, length, get_or, set, Option, Some, None, nat_eq, refl, sym, ap, subst, ◌∙◌, arith}
+use Rattle.std.proofs.Common.{◌≡◌, ℕ, ◌+◌, ◌-◌, ◌<◌, ◌≤◌, Bool, true, false, cond, not, inl, inr, List, [], ◌∷◌, ◌++◌, map, length, get_or, set, Option, Some, None, nat_eq, refl, sym, ap, subst, ◌∙◌, arith, is_some, option_map}
 use Rattle.std.specs.List.{All, filter, sum_by, find}
+use Rattle.std.specs.Prelude.{IfSome}
 use Rattle.std.specs.Option.{IsSomeAnd}
 use Rattle.std.proofs.lemmas.List.{length-set}
 use Rattle.std.proofs.lemmas.List.Elements.{All-push, All-filter, All-head, All-tail, All-append, All-map, All-weaker}
@@ -9,8 +10,10 @@ use Rattle.std.proofs.lemmas.List.Filters.{sum_by-filter_both, length-filter_bot
 use Rattle.std.proofs.lemmas.Bool.Decides.{eqb_tells}
 use Rattle.fs_model.specs.State.{Copied, RoomRow}
 use Rattle.fs_model.specs.Updates.{used}
+use Rattle.tier_book.specs.declared.room.Room.{Room}
+use Rattle.tier_book.specs.declared.row.BlockRow.{BlockRow}
 use Rattle.tier_book.specs.declared.row.Flags.{Flags}
-use Rattle.tier_book.specs.Rows.{room_sum, row_sum, is_block, rooms_with, rooms_without, room_numbered, rows_with, rows_without, with_flags, flagged}
+use Rattle.tier_book.specs.Rows.{copied_of, room_row, row_of, room_sum, row_sum, is_block, rooms_with, rooms_without, room_numbered, rows_with, rows_without, with_flags, flagged}
 use Rattle.tier_book.specs.Kept.{IsKept}
 use Rattle.tier_book.proofs.Freed.{set_at, same}
 use Rattle.tier_book.proofs.Tiers.{room_at, row_at, row_at_is}
@@ -284,3 +287,22 @@ room_in sizes taken held next rooms after rows same' r k lt le e w a s =
     subst (IsKept sizes next after) (sym s)
     (subst (λ x. IsKept sizes x after rows) (ap (λ h. set h r.tier (get_or h r.tier 0 + r.bytes)) (sym e) ∙ sym w)
     (subst (λ x. IsKept sizes (set taken r.tier (get_or taken r.tier 0 + r.bytes)) x rows) (sym a) (room_added sizes taken rooms rows r k lt (omega arith))))
+
+-- what is there, where something is
+pub some_there : {X : Type 0} (o : Option X) → is_some o ≡ true → (x : X) × (o ≡ Some x)
+some_there None h = cc
+some_there (Some x) h = (x, refl)
+
+-- the reservation that is found is at a tier of the worker, as all are
+pub found_room_at : (o : Option Room) (rooms : List RoomRow) (n k : ℕ) → option_map room_row o ≡ room_numbered n rooms → All (λ r. r.tier < k) rooms → IfSome o (λ r. r.tier < k)
+found_room_at None rooms n k e all = tt
+found_room_at (Some r) rooms n k e all = found_has (λ x. nat_eq x.number n) (λ x. x.tier < k) rooms (room_row r) (sym e) all
+
+-- the row that is found is at a tier of the worker, as all are
+pub found_row_at : (o : Option BlockRow) (rows : List Copied) (f i k : ℕ) → option_map copied_of o ≡ row_of f i rows → All (λ c. c.tier < k) rows → IfSome o (λ r. r.tier < k)
+found_row_at None rows f i k e all = tt
+found_row_at (Some r) rows f i k e all = found_has (is_block f i) (λ c. c.tier < k) rows (copied_of r) (sym e) all
+
+-- without one that is there, one at least is gone
+pub room_gone : (rooms rest : List RoomRow) (n : ℕ) (x : RoomRow) → rest ≡ rooms_without n rooms → room_numbered n rooms ≡ Some x → length rest + 1 ≤ length rooms
+room_gone rooms rest n x same e = let lt : length (rooms_without n rooms) < length rooms = found_out (λ r. nat_eq r.number n) rooms x e in let len = ap length same in omega arith

@@ -1,6 +1,6 @@
 //! The book of one worker.
 
-ghost use Rattle.std.specs.Prelude.{◌≡◌, ℕ, ◌≤◌, ◌<◌, ◌^◌, ◌∷◌, [], ◌++◌, map, length, None, IfSome, IfOk, OnOk, OnErr, is_some, IsTrue, option_map};
+ghost use Rattle.std.specs.Prelude.{◌≡◌, ℕ, ◌≤◌, ◌<◌, ◌+◌, ◌^◌, ◌∷◌, [], ◌++◌, map, length, None, IfSome, IfOk, OnOk, OnErr, is_some, IsTrue, option_map};
 ghost use Rattle.std.specs.Option.{IsSomeAnd};
 ghost use Rattle.fs_model.specs.Updates.{used};
 ghost use Rattle.tier_book.specs.Rows.{copied_of, room_row, free_at, fitting, next_number, room_numbered, rooms_without, row_of, row_numbered, rows_without, flagged};
@@ -111,7 +111,8 @@ impl Book {
 
     /// The row of a block, if the worker has it.
     pub fn row(&self, file: FileId, block: BlockNo) -> Option<BlockRow>
-        ensures { option_map copied_of result ≡ row_of file block self.now.rows }
+        ensures found { option_map copied_of result ≡ row_of file block self.now.rows }
+        ensures tier { IfSome result (λ r. r.tier < length self.now.sizes) }
     {
         find_row(&self.rows, file, block)
     }
@@ -125,7 +126,8 @@ impl Book {
 
     /// The reservation with this number, if it is there.
     pub fn room(&self, room: RoomNo) -> Option<Room>
-        ensures { option_map room_row result ≡ room_numbered room self.now.rooms }
+        ensures found { option_map room_row result ≡ room_numbered room self.now.rooms }
+        ensures tier { IfSome result (λ r. r.tier < length self.now.sizes) }
     {
         find_room(&self.rooms, room)
     }
@@ -165,6 +167,7 @@ impl Book {
         requires len { IsSomeAnd (room_numbered room self.old.rooms) (λ r. row.len ≤ r.bytes) }
         requires absent { row_of row.file row.block self.old.rows ≡ None }
         ensures rooms { self.new.rooms ≡ rooms_without room self.old.rooms }
+        ensures fewer { length self.new.rooms + 1 ≤ length self.old.rooms }
         ensures rows { self.new.rows ≡ self.old.rows ++ copied_of row ∷ [] }
         ensures next { self.new.next ≡ self.old.next }
         ensures sizes { self.new.sizes ≡ self.old.sizes }
@@ -179,6 +182,7 @@ impl Book {
     pub fn cancel(&mut self, room: RoomNo)
         requires { IsTrue (is_some (room_numbered room self.old.rooms)) }
         ensures rooms { self.new.rooms ≡ rooms_without room self.old.rooms }
+        ensures fewer { length self.new.rooms + 1 ≤ length self.old.rooms }
         ensures rows { self.new.rows ≡ self.old.rows }
         ensures next { self.new.next ≡ self.old.next }
         ensures sizes { self.new.sizes ≡ self.old.sizes }

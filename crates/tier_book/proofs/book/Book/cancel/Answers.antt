@@ -1,7 +1,7 @@
-use Rattle.std.proofs.Common.{◌≡◌, map, length, drop, ap, arith}
+use Rattle.std.proofs.Common.{◌≡◌, map, length, drop, ap, ◌∙◌, arith}
 use Rattle.std.proofs.lemmas.List.{take_at}
-use Rattle.tier_book.specs.Rows.{copied_of, room_row}
-use Rattle.tier_book.proofs.Changes.{rooms_out}
+use Rattle.tier_book.specs.Rows.{copied_of, room_row, room_numbered, rooms_without}
+use Rattle.tier_book.proofs.Changes.{rooms_out, room_gone, some_there}
 use Rattle.tier_book.proofs.book.Book.cancel.Goals as goal
 
 pub invariant_of-self : goal.invariant_of-self
@@ -13,3 +13,8 @@ invariant_of-self c =
           c.self.invariant.0 c.deref_mut.ensures.value (ap (map room_row) c.deref.ensures.value) c.free_rooms.ensures.len c.free_rooms.ensures.freed c.remove_rooms.ensures.items,
       omega arith,
     )
+
+pub returns-clause-fewer : goal.returns-clause-fewer
+returns-clause-fewer c =
+    let found = some_there (room_numbered c.args.room c.args.self.now.rooms) c.requires in
+    room_gone c.args.self.now.rooms _ c.args.room found.0 (c.remove_rooms.ensures.items ∙ ap (rooms_without c.args.room) (ap (λ v. v.rooms) c.self.view_is)) found.1

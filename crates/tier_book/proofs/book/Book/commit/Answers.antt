@@ -1,7 +1,7 @@
 use Rattle.std.proofs.Common.{◌≡◌, ◌<◌, ◌++◌, map, length, take, drop, get_or, sym, ap, ◌∙◌, subst, arith}
 use Rattle.std.proofs.lemmas.List.{take_at, map_push, length-map, length_push}
-use Rattle.tier_book.specs.Rows.{copied_of, room_row}
-use Rattle.tier_book.proofs.Changes.{rooms_out, commit_rests, row_in}
+use Rattle.tier_book.specs.Rows.{copied_of, room_row, room_numbered, rooms_without}
+use Rattle.tier_book.proofs.Changes.{rooms_out, commit_rests, row_in, room_gone, there}
 use Rattle.tier_book.proofs.book.Book.commit.Goals as goal
 
 pub take_bytes-requires-clause-tier : goal.take_bytes-requires-clause-tier
@@ -43,3 +43,8 @@ invariant_of-self c =
           kept may (c.deref_mut-2.ensures.value ∙ freed) c.take_bytes.ensures added,
       omega arith,
     )
+
+pub returns-clause-fewer : goal.returns-clause-fewer
+returns-clause-fewer c =
+    let found = there (room_numbered c.args.room c.args.self.now.rooms) _ c.requires.len in
+    room_gone c.args.self.now.rooms _ c.args.room found.0 (c.remove_rooms.ensures.items ∙ ap (rooms_without c.args.room) (ap (λ v. v.rooms) c.self.view_is)) found.1
