@@ -3,7 +3,7 @@ use Rattle.std.specs.Prelude.{ℕ, ◌≡◌, ◌≤◌, ◌⊎◌, List, [], �
 use Rattle.std.specs.Fmt.{decimal}
 use Rattle.outside.specs.Keys.{KeyNames}
 use Rattle.outside.specs.Causes.{Rose}
-use Rattle.outside.specs.Contents.{IsSame, is_short, put_at}
+use Rattle.outside.specs.Contents.{IsCrossed, IsSame, is_short, put_at}
 use Rattle.outside.specs.declared.objects.ObjectWrite as writes
 use Rattle.outside.specs.declared.objects.Objects as objects
 
@@ -21,19 +21,25 @@ pub record ChangesAt {S : Type 0} (old new : List S) (t : ℕ) (R : S → S → 
   pub at : At old new t R
   pub others : (j : ℕ) → (j ≡ t → ⊥) → slice_get new j ≡ slice_get old j
 
--- a store tells what it told, and its counts don't fall
+-- a store tells what it told and counts no change of an object, and its count of faults doesn't fall
 pub record Keeps {S R W : Type 0} (o : objects.Ghosts S R W) (old new : S) : Type 0 where
-  pub told : IsSame (o.told old) (o.told new)
+  pub told : o.told new ≡ o.told old
+  pub changes : o.changes new ≡ o.changes old
   pub faults : o.faults old ≤ o.faults new
-  pub misses : o.misses old ≤ o.misses new
 
 -- the object of the key has the writer's bytes, where the store and the writer tell
-abbrev pub IsPut : {S R W : Type 0} → objects.Ghosts S R W → writes.Ghosts W → W → KeyNames → S → S → Type 0
-IsPut o w writer key old new = (bytes : List ℕ) → w.taken writer ≡ option_map (λ _. bytes) (o.told old) → IsSame (option_map (put_at key (Some bytes)) (o.told old)) (o.told new)
+pub record IsPut {S R W : Type 0} (o : objects.Ghosts S R W) (w : writes.Ghosts W) (writer : W) (key : KeyNames) (old new : S) : Type 0 where
+  pub bytes : (bytes : List ℕ) → w.taken writer ≡ option_map (λ _. bytes) (o.told old) → IsSame (option_map (put_at key (Some bytes)) (o.told old)) (o.told new)
+  pub faults : o.faults old ≤ o.faults new
 
 -- so it is, or the store tells what it told
-abbrev pub IsPutOrNot : {S R W : Type 0} → objects.Ghosts S R W → writes.Ghosts W → W → KeyNames → S → S → Type 0
-IsPutOrNot o w writer key old new = (bytes : List ℕ) → w.taken writer ≡ option_map (λ _. bytes) (o.told old) → IsSame (option_map (put_at key (Some bytes)) (o.told old)) (o.told new) ⊎ IsSame (o.told old) (o.told new)
+pub record IsPutOrNot {S R W : Type 0} (o : objects.Ghosts S R W) (w : writes.Ghosts W) (writer : W) (key : KeyNames) (old new : S) : Type 0 where
+  pub bytes : (bytes : List ℕ) → w.taken writer ≡ option_map (λ _. bytes) (o.told old) → IsSame (option_map (put_at key (Some bytes)) (o.told old)) (o.told new) ⊎ IsSame (o.told old) (o.told new)
+  pub faults : o.faults old ≤ o.faults new
+
+-- the store failed, or it tells and the key can't stand beside another's
+abbrev pub IsFaultOrCrossed : {S R W : Type 0} → objects.Ghosts S R W → KeyNames → S → S → Type 0
+IsFaultOrCrossed o key old new = Rose (o.faults old) (o.faults new) ⊎ IsCrossed (o.told old) key
 
 -- the store failed, or it tells and the object of the key is absent or ends before this place
 abbrev pub IsFaultOrShort : {S R W : Type 0} → objects.Ghosts S R W → KeyNames → ℕ → S → S → Type 0

@@ -1,11 +1,11 @@
 //! What a worker does with blocks: room for one, its object, and reading it.
 
-ghost use Rattle.std.specs.Prelude.{◌≡◌, ◌≤◌, ◌<◌, ◌+◌, ◌^◌, ◌⊎◌, ◌++◌, ◌∷◌, [], Err, None, Some, length, option_map, slice_get, IfOk, IfErr, IfSome, IfNone, IsSomeAnd, OnOk, OnErr, vec_len, vec_capacity};
+ghost use Rattle.std.specs.Prelude.{◌≡◌, ◌≤◌, ◌<◌, ◌+◌, ◌^◌, ◌⊎◌, ◌++◌, ◌∷◌, [], Ok, Err, None, Some, length, option_map, slice_get, IfOk, IfErr, IfSome, IfNone, IsOk, IsSome, IsSomeAnd, OnOk, OnErr, vec_len, vec_capacity};
 ghost use Rattle.fs_model.specs.Lookups.{no_worker};
 ghost use Rattle.outside.specs.Causes.{Rose};
-ghost use Rattle.outside.specs.Contents.{IsCrossed, IsRange};
+ghost use Rattle.outside.specs.Contents.{IsRange};
 ghost use Rattle.tier_book.specs.Rows.{copied_of, fitting, free_at, room_numbered, row_of};
-ghost use Rattle.cluster_core.specs.Tiers.{ChangesAt, IsFaultOrShort, IsPut, IsPutOrNot, Keeps, object_key};
+ghost use Rattle.cluster_core.specs.Tiers.{ChangesAt, IsFaultOrCrossed, IsFaultOrShort, IsPut, IsPutOrNot, Keeps, object_key};
 ghost use Rattle.cluster_core.specs.Nodes.{HasSpace, IsAsBefore, IsCommitted, IsFreed, IsUsed, commit_as, node_row};
 
 use crate::node::{Finished, Node, Opened, Space};
@@ -61,6 +61,7 @@ impl<O: Objects> Node<O> {
         ensures empty { IfOk result (λ space. IsSomeAnd (slice_get self.old.tiers.items tier) (λ s. O.Writer.taken space.writer ≡ option_map (λ _. []) (O.told s))) }
         ensures err { OnErr result (IsAsBefore self.old self.new) }
         ensures tiers { ChangesAt self.old.tiers.items self.new.tiers.items tier (Keeps O.Objects) }
+        ensures misses { ChangesAt self.old.tiers.items self.new.tiers.items tier (λ old new. O.misses new ≡ O.misses old) }
         ensures failed { result ≡ Err Fail.Failed → ChangesAt self.old.tiers.items self.new.tiers.items tier (λ old new. Rose (O.faults old) (O.faults new)) }
     {
         let mut writer = self.tiers[tier.0 as usize].begin_write()?;
@@ -74,14 +75,16 @@ impl<O: Objects> Node<O> {
     /// with spare for the block. `None` exactly where no tier has them free; then nothing changes.
     ///
     /// `Failed` comes only where the count of that tier rose. After an error what the worker keeps of its blocks is as
-    /// it was.
+    /// it was. Whatever the answer, that tier's objects are as they were, and the other tiers too.
     pub fn make_space(&mut self, len: u64) -> Result<Option<Space<O::Writer>>, Fail>
         ensures none { IfOk result (λ found. IfNone found ((fitting self.old.book len ≡ None) × (self.new ≡ self.old))) }
+        ensures full { fitting self.old.book len ≡ None → result ≡ Ok None }
         ensures space { IfOk result (λ found. IfSome found (λ space. IsSomeAnd (fitting self.old.book len) (HasSpace self.old self.new len space.room))) }
         ensures writer { IfOk result (λ found. IfSome found (λ space. (O.Writer.written space.writer ≡ 0) × (len ≤ O.Writer.spare space.writer))) }
         ensures empty { IfOk result (λ found. IfSome found (λ space. IsSomeAnd (fitting self.old.book len) (λ t. IsSomeAnd (slice_get self.old.tiers.items t) (λ s. O.Writer.taken space.writer ≡ option_map (λ _. []) (O.told s))))) }
         ensures err { OnErr result (IsAsBefore self.old self.new) }
         ensures tiers { IfSome (fitting self.old.book len) (λ t. ChangesAt self.old.tiers.items self.new.tiers.items t (Keeps O.Objects)) }
+        ensures misses { IfSome (fitting self.old.book len) (λ t. ChangesAt self.old.tiers.items self.new.tiers.items t (λ old new. O.misses new ≡ O.misses old)) }
         ensures failed { result ≡ Err Fail.Failed → IsSomeAnd (fitting self.old.book len) (λ t. ChangesAt self.old.tiers.items self.new.tiers.items t (λ old new. Rose (O.faults old) (O.faults new))) }
     {
         let Some(tier) = self.book.first_fit(len) else {
@@ -110,7 +113,7 @@ impl<O: Objects> Node<O> {
         ensures freed { OnErr result (IsFreed self.old self.new room (self.old.litter.items ++ room ∷ [])) }
         ensures done { OnOk result (ChangesAt self.old.tiers.items self.new.tiers.items row.tier (IsPut O.Objects O.Writer.ObjectWrite writer key)) }
         ensures tiers { ChangesAt self.old.tiers.items self.new.tiers.items row.tier (IsPutOrNot O.Objects O.Writer.ObjectWrite writer key) }
-        ensures failed { OnErr result (ChangesAt self.old.tiers.items self.new.tiers.items row.tier (λ old new. Rose (O.faults old) (O.faults new) ⊎ IsCrossed (O.told old) key)) }
+        ensures failed { OnErr result (ChangesAt self.old.tiers.items self.new.tiers.items row.tier (IsFaultOrCrossed O.Objects key)) }
     {
         match self.tiers[row.tier.0 as usize].finish(writer, key) {
             Ok(()) => {
@@ -126,11 +129,13 @@ impl<O: Objects> Node<O> {
     }
 
     /// Commits a block: the object of a reservation is made from its writer, and the reservation becomes the row of
-    /// the block. Where the worker has that block already, the reservation is freed instead. A reservation that isn't
-    /// there or is smaller than the block commits nothing.
+    /// the block. Where the worker has that block already, the reservation is freed instead. So is one that is smaller
+    /// than the block, and where the reservation isn't there nothing changes; the answer is `Ok` in these cases, and
+    /// the tiers stay as they were.
     ///
-    /// `Fault` comes only where the count of the reservation's tier rose, or its key can't stand beside another's;
-    /// the reservation is then freed, and its number joins the litter. It takes no memory.
+    /// `Fault` comes only where the count of the reservation's tier rose, or its key can't stand beside another's.
+    /// The reservation is then freed, and its number joins the litter, since the object may be there: that tier has
+    /// the object whole or holds what it held, and the other tiers stay as they were. It takes no memory.
     pub fn commit(
         &mut self,
         room: RoomNo,
@@ -139,9 +144,18 @@ impl<O: Objects> Node<O> {
         block: Finished,
     ) -> Result<(), Fault>
         ensures row { OnOk result (IsSomeAnd (room_numbered room self.old.book.rooms) (λ r. block.len ≤ r.bytes) → node_row self.new ≡ commit_as block.keep block.pin room block.file block.block block.len (node_row self.old)) }
-        ensures freed { OnErr result (IsFreed self.old self.new room (self.old.litter.items ++ room ∷ [])) }
-        ensures fault { OnErr result (row_of block.file block.block self.old.book.rows ≡ None) }
         ensures sizes { self.new.book.sizes ≡ self.old.book.sizes }
+
+        ensures done { OnOk result (row_of block.file block.block self.old.book.rows ≡ None → IfSome (room_numbered room self.old.book.rooms) (λ r. block.len ≤ r.bytes → ChangesAt self.old.tiers.items self.new.tiers.items r.tier (IsPut O.Objects O.Writer.ObjectWrite writer key))) }
+        ensures there { IsSome (row_of block.file block.block self.old.book.rows) → IsOk result × (self.new.tiers ≡ self.old.tiers) }
+        ensures missing { room_numbered room self.old.book.rooms ≡ None → IsOk result × (self.new ≡ self.old) }
+        ensures small { IsSomeAnd (room_numbered room self.old.book.rooms) (λ r. r.bytes < block.len) → IsOk result × IsFreed self.old self.new room self.old.litter.items }
+        ensures kept { IsSomeAnd (room_numbered room self.old.book.rooms) (λ r. r.bytes < block.len) → self.new.tiers ≡ self.old.tiers }
+
+        ensures lost { OnErr result (IsFreed self.old self.new room (self.old.litter.items ++ room ∷ [])) }
+        ensures fault { OnErr result (row_of block.file block.block self.old.book.rows ≡ None) }
+        ensures tiers { OnErr result (IsSomeAnd (room_numbered room self.old.book.rooms) (λ r. ChangesAt self.old.tiers.items self.new.tiers.items r.tier (IsPutOrNot O.Objects O.Writer.ObjectWrite writer key))) }
+        ensures failed { OnErr result (IsSomeAnd (room_numbered room self.old.book.rooms) (λ r. ChangesAt self.old.tiers.items self.new.tiers.items r.tier (IsFaultOrCrossed O.Objects key))) }
     {
         let Some(space) = self.book.room(room) else {
             return Ok(());
@@ -187,6 +201,7 @@ impl<O: Objects> Node<O> {
         ensures due { IfOk result (λ reader. O.Reader.to_give reader ≡ len) }
         ensures range { IfOk result (λ reader. IsSomeAnd (slice_get self.old.tiers.items row.tier) (λ s. IsRange (O.told s) (object_key self.old.started row.number) at len (O.Reader.left reader))) }
         ensures err { OnErr result (IsAsBefore self.old self.new) }
+        ensures tiers { ChangesAt self.old.tiers.items self.new.tiers.items row.tier (Keeps O.Objects) }
         ensures failed { result ≡ Err Fail.Failed → ChangesAt self.old.tiers.items self.new.tiers.items row.tier (IsFaultOrShort O.Objects (object_key self.old.started row.number) (at + len)) }
     {
         let key = Key::of_numbers(alloc, self.started, row.number)?;
@@ -200,7 +215,8 @@ impl<O: Objects> Node<O> {
     /// exactly where the worker has no such block; then nothing changes.
     ///
     /// `Failed` comes only where the count of the block's tier rose, or the tier tells and its object is absent or
-    /// shorter. After an error what the worker keeps of its blocks is as it was.
+    /// shorter. After an error what the worker keeps of its blocks is as it was. Whatever the answer, that tier's
+    /// objects are as they were, and the other tiers too.
     pub fn open_row(
         &mut self,
         alloc: Global,
@@ -210,10 +226,12 @@ impl<O: Objects> Node<O> {
         len: u64,
     ) -> Result<Option<Opened<O::Reader>>, Fail>
         ensures none { IfOk result (λ found. IfNone found ((row_of file block self.old.book.rows ≡ None) × (self.new ≡ self.old))) }
+        ensures absent { row_of file block self.old.book.rows ≡ None → result ≡ Ok None }
         ensures row { IfOk result (λ found. IfSome found (λ opened. IsSomeAnd (row_of file block self.old.book.rows) (λ c. (opened.tier ≡ c.tier) × IsUsed self.old self.new c.number))) }
         ensures due { IfOk result (λ found. IfSome found (λ opened. O.Reader.to_give opened.reader ≡ len)) }
         ensures range { IfOk result (λ found. IfSome found (λ opened. IsSomeAnd (row_of file block self.old.book.rows) (λ c. IsSomeAnd (slice_get self.old.tiers.items c.tier) (λ s. IsRange (O.told s) (object_key self.old.started c.number) at len (O.Reader.left opened.reader))))) }
         ensures err { OnErr result (IsAsBefore self.old self.new) }
+        ensures tiers { IfSome (row_of file block self.old.book.rows) (λ c. ChangesAt self.old.tiers.items self.new.tiers.items c.tier (Keeps O.Objects)) }
         ensures failed { result ≡ Err Fail.Failed → IsSomeAnd (row_of file block self.old.book.rows) (λ c. ChangesAt self.old.tiers.items self.new.tiers.items c.tier (IsFaultOrShort O.Objects (object_key self.old.started c.number) (at + len))) }
     {
         let Some(row) = self.book.row(file, block) else {
