@@ -8,6 +8,9 @@ ghost use Rattle.tier_book.specs.Rows.{copied_of, fitting, free_at, room_numbere
 ghost use Rattle.cluster_core.specs.Tiers.{ChangesAt, IsFaultOrCrossed, IsFaultOrShort, IsPut, IsPutOrNot, Keeps, object_key};
 ghost use Rattle.cluster_core.specs.Nodes.{HasSpace, IsAsBefore, IsCommitted, IsFreed, IsUsed, commit_as, node_row};
 
+#[cfg(test)]
+mod tests;
+
 use crate::node::{Finished, Node, Opened, Space};
 use fs_model::numbers::{BlockNo, FileId, TierNo};
 use outside::key::Key;

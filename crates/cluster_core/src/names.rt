@@ -13,6 +13,9 @@ ghost use Rattle.fs_model.specs.Tests.{walk_fault};
 ghost use Rattle.inode_tree.specs.Rows.{leads_to, node_of, row_of_node, file_in_row, file_row, IfFound};
 ghost use Rattle.cluster_core.specs.Names.{first_names, is_full, is_numbered_out, is_short, place_test, with_directory, with_done, with_file};
 
+#[cfg(test)]
+mod tests;
+
 use fs_model::name::{Name, names_len};
 use fs_model::numbers::FileId;
 use fs_model::path::Path;
