@@ -101,7 +101,7 @@ pub trait ObjectWrite: Drop {
         ensures { result ≡ written self.now };
 }
 
-/// A store of objects. One that tells is a finite map from keys to bytes in which no key is a proper
+/// A store of objects: bytes at keys, which it may tell. Its calls keep it so that no key is a proper
 /// prefix of another as a list of names.
 ///
 /// A call answers `Fault` or `Failed` only where one of its counts rose in that call: `misses` where
