@@ -9,8 +9,10 @@ use Rattle.fs_model.specs.declared.event.WriteType.{WriteType}
 use Rattle.fs_model.specs.declared.reply.Reply.{Reply}
 use Rattle.fs_model.specs.declared.reply.Refusal.TheVariants.{Exists, NoWorker, BadLabel}
 use Rattle.fs_model.specs.declared.reply.Which.{Which}
+use Rattle.fs_model.specs.declared.reply.Stored.{Stored}
+use Rattle.fs_model.specs.declared.change.Change.{Change}
 use Rattle.fs_model.specs.Words.{first, path_len}
-use Rattle.fs_model.specs.State.{State, Whole, Node, Hands}
+use Rattle.fs_model.specs.State.{State, Whole, Node, NodeRow, Hands}
 use Rattle.fs_model.specs.Changes.{put_node, key_len}
 use Rattle.fs_model.specs.NodesEvents.{checkpoint_gate}
 use Rattle.fs_model.specs.Opening.{fresh_names}
@@ -19,11 +21,11 @@ use Rattle.fs_model.specs.Lookups.{find_node, walk_above, has_label, is_configur
 use Rattle.fs_model.specs.Tests.{refuse, walk_fault, past, ◌only_if◌}
 use Rattle.fs_model.specs.Machine.{refusal}
 use Rattle.fs_model.specs.NamesOutcomes.{mkdir_outcome}
-use Rattle.fs_model.specs.Updates.{spend, journal_if}
+use Rattle.fs_model.specs.Updates.{spend, journal, journal_if}
 use Rattle.fs_model.specs.NamesEvents.{create_change}
-use Rattle.cluster_core.specs.Names.{NamesView, first_names, place_test, is_full, is_numbered_out, is_short, with_directory, with_file, new_file}
+use Rattle.cluster_core.specs.Names.{NamesView, first_names, place_test, is_full, is_numbered_out, is_short, with_directory, with_done, done_nodes, with_file, new_file}
 use Rattle.cluster_core.specs.NamesStand.{NamesStand}
-use Rattle.cluster_core.specs.Tests.{mkdir_test, list_test, create_test, Circumstance}
+use Rattle.cluster_core.specs.Tests.{mkdir_test, list_test, stat_test, create_test, Circumstance}
 
 -- the first answer of a list within a list
 pub first_first : {X : Type 0} (a b : Option X) (rest : List (Option X)) → first (first (a ∷ b ∷ []) ∷ rest) ≡ first (a ∷ b ∷ rest)
@@ -47,6 +49,9 @@ mkdir_refusal S names A H p s = rw (s.up, s.unlocked, s.nodes, s.gate) (sym (fla
 
 pub list_refusal : (S : Setup) (names : NamesView) (A : State) (H : Hands) (p : Path) → NamesStand names A → refusal S A H (Event.List p) ≡ list_test names p
 list_refusal S names A H p s = rw (s.up, s.unlocked, s.nodes) refl
+
+pub stat_refusal : (S : Setup) (names : NamesView) (A : State) (H : Hands) (p : Path) → NamesStand names A → refusal S A H (Event.Stat p) ≡ stat_test names p
+stat_refusal S names A H p s = rw (s.up, s.unlocked, s.nodes) refl
 
 -- the tests of Create behind that of the place
 abbrev create_rest : ℕ → NamesView → Circumstance → Path → List (Option Reply)
@@ -86,6 +91,23 @@ create_stands names A p s = record {
   up = s.up;
   unfused = ap (spend 4) s.unfused;
 }
+
+pub done_stands : (names : NamesView) (A : State) (id len : ℕ) → NamesStand names A → NamesStand (with_done id len names) (journal (Change.Done id len Stored.No 0) A)
+done_stands names A id len s = record {
+  nodes = ap (done_nodes id len) s.nodes;
+  gate = omega (arith, s.gate);
+  next_id = s.next_id;
+  unlocked = s.unlocked;
+  up = s.up;
+  unfused = ap (spend 4) s.unfused;
+}
+
+-- the names whose nodes, gate and next number are those with a file done
+pub done_names : (nodes new : List NodeRow) (gate next id len : ℕ) (names : NamesView) → ◌≡◌ {A = NamesView} (record { nodes = nodes; gate = gate; next_id = next }) names → new ≡ done_nodes id len nodes
+    → ◌≡◌ {A = NamesView} (record { nodes = new; gate = gate + 31; next_id = next }) (with_done id len names)
+done_names nodes new gate next id len names view are =
+    let more : gate + 31 ≡ gate + 1 + 30 = omega arith in
+    (λ i. record { nodes = are i; gate = more i; next_id = next }) ∙ ap (with_done id len) view
 
 -- ---- the first state
 

@@ -9,8 +9,8 @@ abbrev pub is_distinct : Hands → Bool
 is_distinct [] = true
 is_distinct (r ∷ H) = not (has_label H r.label) && is_distinct H
 
--- R holds under each label, and there are as many labels, none of them twice
-pub record Matches {T : Type 0} (R : Option Hand → Option T → Type 0) (H : Hands) (s : LabelsView T) : Type 0 where
-  pub hands : (l : List ℕ) → R (hand_at H l) (hand_in s l)
+-- R of the label holds under each label, and there are as many labels, none of them twice
+pub record Matches {T : Type 0} (R : List ℕ → Option Hand → Option T → Type 0) (H : Hands) (s : LabelsView T) : Type 0 where
+  pub hands : (l : List ℕ) → R l (hand_at H l) (hand_in s l)
   pub counts : length H ≡ count s
   pub distinct : is_distinct H ≡ true

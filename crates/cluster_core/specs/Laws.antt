@@ -5,14 +5,16 @@ use Rattle.fs_model.specs.declared.label.Label.{Label}
 use Rattle.fs_model.specs.declared.setup.Setup.{Setup}
 use Rattle.fs_model.specs.declared.event.Event.{Event}
 use Rattle.fs_model.specs.declared.event.WriteType.{WriteType}
+use Rattle.fs_model.specs.declared.change.Change.{Change}
+use Rattle.fs_model.specs.declared.reply.Stored.{Stored}
 use Rattle.fs_model.specs.State.{State, Whole, Hands}
 use Rattle.fs_model.specs.Lookups.{has_label, is_configured, is_live}
 use Rattle.fs_model.specs.Machine.{refusal}
 use Rattle.fs_model.specs.NamesEvents.{create_change}
 use Rattle.fs_model.specs.NamesOutcomes.{mkdir_outcome}
-use Rattle.fs_model.specs.Updates.{journal_if}
+use Rattle.fs_model.specs.Updates.{journal, journal_if}
 use Rattle.fs_model.specs.Begins.{Begins}
-use Rattle.cluster_core.specs.Names.{NamesView, first_names, with_directory, with_file}
+use Rattle.cluster_core.specs.Names.{NamesView, first_names, with_directory, with_done, with_file}
 use Rattle.cluster_core.specs.NamesStand.{NamesStand}
 use Rattle.cluster_core.specs.Tests.{mkdir_test, list_test, create_test, Circumstance}
 
@@ -29,6 +31,10 @@ circumstance S A H l w = record { taken = has_label H l; labels = length H; work
 abbrev pub CreateIsTheMachines : Type 0
 CreateIsTheMachines = (S : Setup) (names : NamesView) (A : State) (H : Hands) (l : Label) (p : Path) (kind : WriteType) (w : ℕ) → NamesStand names A
     → (refusal S A H (Event.Create l p kind w) ≡ create_test S.area names (circumstance S A H l w) p) × NamesStand (with_file p names) (journal_if (create_change A p) A)
+
+-- a file that is done leads to a state for which the names with it done stand
+abbrev pub DoneIsTheMachines : Type 0
+DoneIsTheMachines = (names : NamesView) (A : State) (id len : ℕ) → NamesStand names A → NamesStand (with_done id len names) (journal (Change.Done id len Stored.No 0) A)
 
 -- List is refused alike
 abbrev pub ListIsTheMachines : Type 0

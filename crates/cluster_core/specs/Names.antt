@@ -1,14 +1,14 @@
 -- The tests and changes of names, by what the master keeps of them.
-use Rattle.std.specs.Prelude.{ℕ, ◌+◌, ◌^◌, Bool, true, false, [], ◌∷◌, length, nat_le, nat_lt, Option, is_some}
+use Rattle.std.specs.Prelude.{ℕ, ◌+◌, ◌^◌, Bool, true, false, cond, List, [], ◌∷◌, map, length, nat_le, nat_lt, Option, is_some}
 use Rattle.fs_model.specs.declared.path.Path.{Path}
 use Rattle.fs_model.specs.declared.setup.Setup.{Setup}
 use Rattle.fs_model.specs.declared.reply.Reply.{Reply}
 use Rattle.fs_model.specs.declared.reply.Refusal.TheVariants.{Exists}
 use Rattle.fs_model.specs.declared.reply.Stored.{Stored}
 use Rattle.fs_model.specs.Words.{first, path_len}
-use Rattle.fs_model.specs.State.{Node, File}
-use Rattle.fs_model.specs.Lookups.{walk_above, find_node}
-use Rattle.fs_model.specs.Changes.{put_node, key_len}
+use Rattle.fs_model.specs.State.{Node, NodeRow, File}
+use Rattle.fs_model.specs.Lookups.{walk_above, find_node, id_is}
+use Rattle.fs_model.specs.Changes.{put_node, set_file, key_len}
 use Rattle.fs_model.specs.Tests.{refuse, walk_fault}
 pub use Rattle.cluster_core.specs.NamesView.{NamesView, ids_below}
 
@@ -52,6 +52,10 @@ new_file id = record { id = id; len = 0; done = false; stored = Stored.No; pinne
 abbrev pub with_file : Path → NamesView → NamesView
 with_file p names = with_entry (15 + path_len p) (record names { nodes = put_node p (Node.IsFile (new_file names.next_id)) names.nodes; next_id = names.next_id + 1 })
 
--- the names with the file at the path done, with so many bytes
-abbrev pub with_done : Path → ℕ → File → NamesView → NamesView
-with_done p len f names = with_entry 30 (record names { nodes = put_node p (Node.IsFile (record f { len = len; done = true; stored = Stored.No })) names.nodes })
+-- the file with this number is done, with so many bytes; all other nodes stay
+abbrev pub done_nodes : ℕ → ℕ → List NodeRow → List NodeRow
+done_nodes id len nodes = map (λ (r : NodeRow). (r.0, cond (id_is id r.1) (set_file (λ f. record f { len = len; done = true; stored = Stored.No }) r.1) r.1)) nodes
+
+-- the names with the file with this number done
+abbrev pub with_done : ℕ → ℕ → NamesView → NamesView
+with_done id len names = with_entry 30 (record names { nodes = done_nodes id len names.nodes })

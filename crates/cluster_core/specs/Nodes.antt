@@ -59,6 +59,10 @@ pub record IsFreed {S : Type 0} (old new : Node S) (room : ℕ) (numbers : List 
   pub next : new.book.next ≡ old.book.next
   pub sizes : new.book.sizes ≡ old.book.sizes
 
+-- a reservation was freed, and its number is no litter
+abbrev pub FreesRoom : {S : Type 0} → ℕ → Node S → Node S → Type 0
+FreesRoom n old new = IsFreed old new n old.litter.items × (new.tiers ≡ old.tiers)
+
 -- the row with this object number became the one that was used last
 pub record IsUsed {S : Type 0} (old new : Node S) (number : ℕ) : Type 0 where
   pub running : new.running ≡ old.running

@@ -10,7 +10,7 @@ ghost use Rattle.fs_model.specs.Lookups as machine;
 ghost use Rattle.fs_model.specs.Lookups.{find_node, walk_above, walk_nodes, names_in};
 ghost use Rattle.fs_model.specs.Changes.{key_len};
 ghost use Rattle.fs_model.specs.Tests.{walk_fault};
-ghost use Rattle.inode_tree.specs.Rows.{leads_to, node_of, row_of_node, file_in_row, file_row, IfFound};
+ghost use Rattle.inode_tree.specs.Rows.{leads_to, node_of, row_of_node, file_row, IfFound};
 ghost use Rattle.cluster_core.specs.Names.{first_names, is_full, is_numbered_out, is_short, place_test, with_directory, with_done, with_file};
 
 #[cfg(test)]
@@ -113,6 +113,37 @@ impl Names {
         self.tree.path_of(alloc, id)
     }
 
+    /// The row of the file with this number; `None` where there is no such file. It takes no memory.
+    pub fn file(&self, id: FileId) -> Option<Row>
+        ensures { option_map node_of result ≡ option_map (λ r. r.1) (file_row self.now.nodes id) }
+    {
+        self.tree.file(id)
+    }
+
+    /// Where the file with this number is, with its row; `None` where there is no such file. An `Err` is want of memory.
+    pub fn place_of(&self, alloc: Global, id: FileId) -> Result<Option<(Path, Row)>, AllocError>
+        ensures none { IfOk result (λ found. IfNone found (file_row self.now.nodes id ≡ None)) }
+        ensures some { IfOk result (λ found. IfSome found (λ place. is_some (file_row self.now.nodes id) ≡ true)) }
+        ensures there { IfOk result (λ found. IfSome found (λ place. find_node self.now.nodes place.0 ≡ Some (node_of place.1))) }
+        ensures file { IfOk result (λ found. IfSome found (λ place. place.1.dir ≡ false)) }
+        ensures id { IfOk result (λ found. IfSome found (λ place. place.1.id ≡ id)) }
+    {
+        let Some(row) = self.tree.file(id) else {
+            return Ok(None);
+        };
+        match self.tree.path_of(alloc, id)? {
+            None => Ok(None),
+            Some(path) => Ok(Some((path, row))),
+        }
+    }
+
+    /// Whether there is a file with this number; takes no memory.
+    pub fn has_file(&self, id: FileId) -> bool
+        ensures { result ≡ is_some (file_row self.now.nodes id) }
+    {
+        self.tree.file(id).is_some()
+    }
+
     /// The names in a directory, in the order of their bytes. An `Err` is want of memory.
     pub fn list(&self, alloc: Global, path: &Path) -> Result<Vec<Name>, AllocError>
         ensures { IfOk result (λ names. names.items ≡ names_in self.now.nodes path.now) }
@@ -200,7 +231,7 @@ impl Names {
         requires found { find_node self.old.nodes path.now ≡ Some (node_of row) }
         requires file { row.dir ≡ false }
         requires room { self.old.gate + 2 + 30 ≤ 2 ^ 30 }
-        ensures { self.new ≡ with_done path.now len (file_in_row row) self.old }
+        ensures { self.new ≡ with_done row.id len self.old }
     {
         let done = Row {
             dir: false,

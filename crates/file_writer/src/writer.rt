@@ -78,6 +78,14 @@ impl<T: ObjectWrite> FileWriter<T> {
         }
     }
 
+    /// How many bytes a block has.
+    pub fn block_size(&self) -> u32
+        ensures size { result ≡ self.now.bs }
+        ensures some { 0 < result }
+    {
+        self.block_size
+    }
+
     /// How many bytes it took in all; from 2^64 - 1 on it stays there.
     pub fn len(&self) -> u64
         ensures { result ≡ self.now.len }

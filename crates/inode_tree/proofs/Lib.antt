@@ -3,3 +3,5 @@ pub mod PathOrder
 pub mod Walks
 pub mod Ranges
 pub mod Places
+pub mod Numbers
+pub mod Files

@@ -1,20 +1,21 @@
 -- What stands at the place of a path.
-use Rattle.std.proofs.Common.{◌≡◌, ℕ, ◌+◌, ◌<◌, ◌≤◌, true, false, List, ◌∷◌, length, drop, get_or, Option, Some, None, option_map, nat_eq, refl, sym, ap, ◌∙◌, subst, arith}
+use Rattle.std.proofs.Common.{◌≡◌, ℕ, ◌+◌, ◌<◌, ◌≤◌, true, false, List, ◌∷◌, length, drop, get_or, Option, Some, None, option_map, unwrap_or, nat_eq, refl, sym, ap, ◌∙◌, subst, arith}
 use Rattle.std.specs.Prelude.{set}
 use Rattle.std.specs.Ordering.{eq_by_cmp}
-use Rattle.std.specs.List.{AllWithin, insert}
+use Rattle.std.specs.List.{AllWithin, insert, list_all}
 use Rattle.std.specs.Cmp.Lexicographic.{pointwise}
 use Rattle.std.proofs.lemmas.List.{drop_more}
 use Rattle.fs_model.specs.declared.path.Path.{Path}
 use Rattle.fs_model.specs.Equal.{names_cmp_total, names_ties}
 use Rattle.fs_model.specs.Words.{path_cmp, path_lt}
-use Rattle.fs_model.specs.State.{Node, NodeRow}
+use Rattle.fs_model.specs.State.{Node, File, NodeRow}
 use Rattle.fs_model.specs.Lookups.{find_node}
 use Rattle.fs_model.specs.Changes.{put_node}
 use Rattle.inode_tree.specs.declared.entry.Entry.{Entry}
 use Rattle.inode_tree.specs.Entries.{node_in, node_row, node_rows, in_order}
-use Rattle.inode_tree.specs.Rows.{file_id}
+use Rattle.inode_tree.specs.Rows.{file_id, file_changed, ids_of, differ, all_differ}
 use Rattle.inode_tree.proofs.Rising.{find_here, find_other, put_here, found_here, put_over, is_sorted-put_here}
+use Rattle.inode_tree.proofs.Numbers.{insert_differs, set_ids, set_changes}
 
 module _ (es : List Entry) (p : Path) (i : ℕ) (e : Entry) (within : i < length es) (is : e ≡ get_or es i e) (before : AllWithin (λ x. path_lt x.path p ≡ true) es 0 i) where
   rest : drop i es ≡ e ∷ drop (i + 1) es
@@ -50,6 +51,12 @@ module _ (es ds ys : List Entry) (q : Path) (i : ℕ) (x : Entry) (read : ds ≡
       let none_there : find_node (node_rows es) x.path ≡ None = (λ j. find_node (view j) (named j)) ∙ none in
       ap in_order made ∙ is_sorted-put_here names_cmp_total node_row x.path (node_in x.inode) es (insert es i x) (put_in none_there) ordered
 
+  -- and it has no number of another, where its node has none
+  pub put_differs : (nodes : List NodeRow) (n : Node) → node_rows es ≡ nodes → node_in x.inode ≡ n → list_all (differ (file_id n)) (ids_of nodes) ≡ true → all_differ (ids_of (node_rows es)) ≡ true → all_differ (ids_of (node_rows ys)) ≡ true
+  put_differs nodes n view kind new apart =
+      let here : list_all (differ (file_id (node_in x.inode))) (ids_of (node_rows es)) ≡ true = (λ j. list_all (differ (file_id (kind j))) (ids_of (view j))) ∙ new in
+      ap (λ zs. all_differ (ids_of (node_rows zs))) made ∙ insert_differs es i x (subst (λ zs. i ≤ length zs) read within) here apart
+
 -- an entry whose node is set: `q` is the path as it was looked for, `ds` the entries as they were read
 module _ (es ds : List Entry) (q p : Path) (i : ℕ) (nodes : List NodeRow) (id : Option ℕ) (read : ds ≡ es) (sought : q ≡ p) (view : node_rows es ≡ nodes) (within : i ≤ length ds)
     (before : AllWithin (λ e. path_lt e.path q ≡ true) ds 0 i) (after : AllWithin (λ e. path_lt e.path q ≡ false) ds i (length ds)) (ordered : in_order es ≡ true) (found : option_map file_id (find_node nodes p) ≡ Some id) where
@@ -81,3 +88,26 @@ module _ (es ds : List Entry) (q p : Path) (i : ℕ) (nodes : List NodeRow) (id 
 
   pub set_in_order : (e x : Entry) → e ≡ get_or es i e → x.path ≡ e.path → in_order (set es i x) ≡ true
   set_in_order e x is same = is_sorted-put_here names_cmp_total node_row p (node_in x.inode) es (set es i x) (set_in e x is same) ordered
+
+  -- the node that is found is the one there
+  stood : (e : Entry) → e ≡ get_or es i e → find_node nodes p ≡ Some (node_in e.inode)
+  stood e is =
+      let there = stands_there e in
+      ap (λ rows. find_node rows p) (sym view)
+      ∙ find_here names_cmp_total node_row p es i e there.0 (drop_more es i e there.0 ∙ ap (λ y. y ∷ drop (i + 1) es) (sym is)) before_here (ap (λ y. eq_by_cmp path_cmp p y.path) is ∙ there.1)
+
+  some_is : {X : Type 0} (a b : X) → Some a ≡ Some b → a ≡ b
+  some_is a b h = ap (λ o. unwrap_or o a) h
+
+  -- a node with its number leaves the numbers
+  pub set_differs : (e x : Entry) → e ≡ get_or es i e → file_id (node_in x.inode) ≡ id → all_differ (ids_of (node_rows es)) ≡ true → all_differ (ids_of (node_rows (set es i x))) ≡ true
+  set_differs e x is same apart =
+      let was : file_id (node_in e.inode) ≡ id = some_is (file_id (node_in e.inode)) id (ap (option_map file_id) (sym (stood e is)) ∙ found) in
+      ap all_differ (set_ids es i e x is (same ∙ sym was)) ∙ apart
+
+  -- and a file that is set is the one with its number
+  pub is_changed : (e x : Entry) (n : Node) (f : File) (change : File → File) → e ≡ get_or es i e → x.path ≡ e.path → node_in x.inode ≡ n → all_differ (ids_of (node_rows es)) ≡ true → find_node nodes p ≡ Some (Node.IsFile f) → n ≡ Node.IsFile (change f)
+      → node_rows (set es i x) ≡ file_changed f.id change nodes
+  is_changed e x n f change is path kind apart at to =
+      let was : node_in e.inode ≡ Node.IsFile f = some_is (node_in e.inode) (Node.IsFile f) (sym (stood e is) ∙ at) in
+      set_changes f change es i e x (stands_there e).0 apart is was path (kind ∙ to) ∙ ap (file_changed f.id change) view

@@ -1,9 +1,11 @@
 -- Rows and walks in the words of the file machine.
-use Rattle.std.specs.Prelude.{ℕ, Bool, true, false, List, Option, None, Some, find}
+use Rattle.std.specs.Prelude.{ℕ, Bool, true, false, cond, not, ◌&&◌, List, [], ◌∷◌, map, Option, None, Some, find, nat_eq}
+use Rattle.std.specs.List.{list_all}
 use Rattle.fs_model.specs.declared.reply.Stored.{Stored}
 use Rattle.fs_model.specs.State.{Node, File, NodeRow}
 use Rattle.fs_model.specs.Lookups as machine
 use Rattle.fs_model.specs.Lookups.{id_is}
+use Rattle.fs_model.specs.Changes.{set_file}
 use Rattle.inode_tree.specs.declared.row.Row.{Row}
 use Rattle.inode_tree.specs.declared.row.Walk.{Walk}
 
@@ -63,3 +65,24 @@ OnBlocked Walk.Blocked P = P
 -- the file with this number, with its path
 abbrev pub file_row : List NodeRow → ℕ → Option NodeRow
 file_row nodes id = find (λ (r : NodeRow). id_is id r.1) nodes
+
+-- the file with this number is changed, as the machine changes it
+abbrev pub file_changed : ℕ → (File → File) → List NodeRow → List NodeRow
+file_changed id change nodes = map (λ (r : NodeRow). (r.0, cond (id_is id r.1) (set_file change r.1) r.1)) nodes
+
+-- ---- no two files have one number
+
+-- the number of each node
+abbrev pub ids_of : List NodeRow → List (Option ℕ)
+ids_of nodes = map (λ (r : NodeRow). file_id r.1) nodes
+
+-- two nodes don't have one number
+abbrev pub differ : Option ℕ → Option ℕ → Bool
+differ None b = true
+differ (Some m) None = true
+differ (Some m) (Some n) = not (nat_eq m n)
+
+-- no number comes twice
+abbrev pub all_differ : List (Option ℕ) → Bool
+all_differ [] = true
+all_differ (a ∷ rest) = list_all (differ a) rest && all_differ rest

@@ -1,12 +1,12 @@
 //! The tree of names.
 
-ghost use Rattle.std.specs.Prelude.{◌≡◌, ◌∷◌, [], true, false, Some, None, length, IfOk, OnOk, OnErr, IfNone, is_some, option_map};
+ghost use Rattle.std.specs.Prelude.{◌≡◌, ◌∷◌, [], true, false, Some, None, length, IfOk, OnOk, OnErr, IfNone, IfSome, is_some, option_map};
 ghost use Rattle.std.specs.Bool.{OnFalse};
-ghost use Rattle.fs_model.specs.State.{Node};
+ghost use Rattle.fs_model.specs.State.{Node, File};
 ghost use Rattle.fs_model.specs.Lookups as machine;
 ghost use Rattle.fs_model.specs.Lookups.{find_node, walk_nodes, walk_above, names_in};
 ghost use Rattle.fs_model.specs.Changes.{put_node};
-ghost use Rattle.inode_tree.specs.Rows.{node_of, directory_row, row_of_node, leads_to, IfFound, OnFound, OnBlocked, file_row, file_id};
+ghost use Rattle.inode_tree.specs.Rows.{node_of, directory_row, row_of_node, leads_to, IfFound, OnFound, OnBlocked, file_row, file_id, file_changed};
 
 use crate::entry::{
     Entry, Inode, children, entries_under, file_entry, inode_at, place_of, walk_prefixes,
@@ -19,7 +19,7 @@ use std::alloc::{AllocError, Global};
 use std::marker::Model;
 
 /// The tree of names: directories and files by path, with `/` there from the start. A contract sees its nodes
-/// as the list of paths with nodes, in the order of the paths.
+/// as the list of paths with nodes, in the order of the paths. No two files have one number.
 #[derive(Debug, Drop)]
 pub struct Tree {
     entries: Vec<Entry>,
@@ -27,14 +27,14 @@ pub struct Tree {
 
 impl Model for Tree {
     ghost use Rattle.std.specs.Prelude.{◌≡◌, true};
-    ghost use Rattle.inode_tree.specs.Rows.{TreeView};
+    ghost use Rattle.inode_tree.specs.Rows.{TreeView, all_differ, ids_of};
     ghost use Rattle.inode_tree.specs.Entries.{node_rows, in_order};
 
     ghost Value = { TreeView };
 
     ghost view = { λ t. record { nodes = node_rows t.entries.items } };
 
-    ghost invariant = { λ t. in_order t.entries.items ≡ true };
+    ghost invariant = { λ t. (in_order t.entries.items ≡ true) × (all_differ (ids_of (node_rows t.entries.items)) ≡ true) };
 }
 
 impl Tree {
@@ -107,10 +107,24 @@ impl Tree {
     pub fn path_of(&self, alloc: Global, id: FileId) -> Result<Option<Path>, AllocError>
         ensures path { IfOk result (λ found. found ≡ option_map (λ r. r.0) (file_row self.now.nodes id)) }
         ensures none { IfOk result (λ found. IfNone found (file_row self.now.nodes id ≡ None)) }
+
+        // The file is what stands at the path.
+        ensures there { IfOk result (λ found. IfSome found (λ path. find_node self.now.nodes path ≡ option_map (λ r. r.1) (file_row self.now.nodes id))) }
     {
         match file_entry(&self.entries, id.0) {
             None => Ok(None),
             Some(entry) => Ok(Some(entry.path.clone()?)),
+        }
+    }
+
+    /// The row of the file with this number; `None` where there is no such file. It takes no memory.
+    pub fn file(&self, id: FileId) -> Option<Row>
+        ensures found { option_map node_of result ≡ option_map (λ r. r.1) (file_row self.now.nodes id) }
+        ensures row { IfSome result (λ row. row ≡ row_of_node (node_of row)) }
+    {
+        match file_entry(&self.entries, id.0) {
+            None => None,
+            Some(entry) => Some(entry.inode.row()),
         }
     }
 
@@ -135,7 +149,10 @@ impl Tree {
     /// file's with its number. All other nodes stay as they are.
     pub fn set(&mut self, path: &Path, row: Row)
         requires same { option_map file_id (find_node self.old.nodes path.now) ≡ Some (file_id (node_of row)) }
-        ensures { self.new.nodes ≡ put_node path.now (node_of row) self.old.nodes }
+        ensures put { self.new.nodes ≡ put_node path.now (node_of row) self.old.nodes }
+
+        // A file that is set is the one with its number, and no other has it.
+        ensures file { (f : File) (change : File → File) → find_node self.old.nodes path.now ≡ Some (Node.IsFile f) → node_of row ≡ Node.IsFile (change f) → self.new.nodes ≡ file_changed f.id change self.old.nodes }
     {
         let at = place_of(&self.entries, path.as_slice());
         self.entries[at].inode = Inode::of(row);

@@ -39,7 +39,7 @@ fn words_of(rt: &HostRuntime) -> io::Result<Vec<String>>
 
 fn main(rt: HostRuntime) -> io::Result<ExitCode> {
     let words = words_of(&rt)?;
-    let mut world = RealWorld::new(rt.clone()?, io::writer(&rt));
+    let mut world = RealWorld::new(rt.alloc(), rt.clone()?, io::writer(&rt));
     let status = run(rt.alloc(), &words, &mut world);
     Ok(ExitCode::from(status))
 }

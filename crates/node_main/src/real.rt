@@ -1,13 +1,18 @@
-//! Files as inputs, and an output, as the system has them. A source or sink tells where its reader or writer does,
-//! which the system's don't.
+//! Files as inputs, and an output, as the system has them; stores and tiers in memory. A source or sink tells where its
+//! reader or writer does, which the system's don't.
 
-ghost use Rattle.std.specs.Prelude.{◌≡◌, ◌≤◌, [], IfOk, IsOk, is_some, None, refl};
+ghost use Rattle.std.specs.Prelude.{◌≡◌, ◌≤◌, [], IfOk, IfSome, IsOk, IsSomeAnd, IsTrue, is_some, None, Some, option_map, refl};
 ghost use Rattle.outside.specs.Causes.{Rose};
+ghost use Rattle.outside.specs.Named.{shelf_of, told_of};
+ghost use Rattle.outside.specs.Shelf.{EachNamed, HasShape, KeepsBut, TellsHeld, all_names, are_distinct, name_lists};
 ghost use Rattle.outside.specs.Streams.{Pulls, Pushes};
 ghost use Rattle.node_main.specs.Files.{file_left, is_named};
 
+use outside::media::{Media, MediaNames};
+use outside::memory::{MemObjects, MemShelf};
 use outside::stream::{Fault, Sink, Source};
 use outside::world::{Fail, World};
+use std::alloc::Global;
 use std::fs::{self, File};
 use std::io::{Print, Printer, Read, Write};
 use std::rt::Files;
@@ -118,7 +123,8 @@ impl<W: SteadyWrite + Drop> Sink for OutSink<W> {
     }
 }
 
-/// The files of the system as inputs, and an output.
+/// The files of the system as inputs, and an output. Its stores and tiers are in memory: they tell all that they hold,
+/// and end with it.
 #[derive(Drop)]
 pub struct RealWorld<R: Files + Drop, W: SteadyWrite + Drop>
 where
@@ -128,6 +134,7 @@ where
     config: FileSource<R::File>,
     script: FileSource<R::File>,
     out: OutSink<W>,
+    shelf: MemShelf,
     faults: u64,
 }
 
@@ -135,9 +142,10 @@ impl<R: Files + Drop, W: SteadyWrite + Drop> RealWorld<R, W>
 where
     R::File: SteadyRead + Drop,
 {
-    /// The world with no input open and nothing failed.
-    pub fn new(rt: R, out: W) -> Self
-        ensures { result.faults ≡ 0 × result.script.faults ≡ 0 × result.out.faults ≡ 0 }
+    /// The world with no input open, no store or tier yet, and nothing failed; takes no memory.
+    pub fn new(alloc: Global, rt: R, out: W) -> Self
+        ensures counts { result.faults ≡ 0 × result.script.faults ≡ 0 × result.out.faults ≡ 0 }
+        ensures shelf { (result.shelf.stores.items ≡ []) × (result.shelf.lent ≡ None) }
     {
         RealWorld {
             rt,
@@ -150,6 +158,7 @@ where
                 faults: 0,
             },
             out: OutSink::new(out),
+            shelf: MemShelf::new(alloc),
             faults: 0,
         }
     }
@@ -177,6 +186,8 @@ where
 
     type Out = OutSink<W>;
 
+    type Store = MemObjects;
+
     ghost held = { λ _. None };
 
     ghost config_input = { λ w. w.config };
@@ -188,6 +199,10 @@ where
     ghost output = { λ w. w.out };
 
     ghost with_output = { λ w o. record w { out = o } };
+
+    ghost shelf = { λ w. Some (shelf_of w.shelf.stores.items) };
+
+    ghost lent = { λ w. option_map name_lists w.shelf.lent };
 
     ghost faults = { λ w. w.faults };
 
@@ -215,6 +230,24 @@ where
         &mut self.out
     }
 
+    /// Fails for want of memory alone.
+    fn assemble(&mut self, names: &MediaNames) -> Result<Media<MemObjects>, Fail> {
+        Ok(self.shelf.lend(names)?)
+    }
+
+    fn give_back(&mut self, media: Media<MemObjects>)
+        requires { IsSomeAnd (option_map name_lists self.old.shelf.lent) (λ names. HasShape names media) }
+        ensures told { IfSome (option_map name_lists self.old.shelf.lent) (λ names. EachNamed (TellsHeld told_of (Some (shelf_of self.new.shelf.stores.items))) names media) }
+        ensures others { IfSome (option_map name_lists self.old.shelf.lent) (λ names. KeepsBut (all_names names) (Some (shelf_of self.old.shelf.stores.items)) (Some (shelf_of self.new.shelf.stores.items))) }
+        ensures idle { option_map name_lists self.new.shelf.lent ≡ None }
+        ensures faults { self.new.faults ≡ self.old.faults }
+        ensures output { self.new.out ≡ self.old.out }
+        ensures config { self.new.config ≡ self.old.config }
+        ensures script { self.new.script ≡ self.old.script }
+    {
+        self.shelf.take_back(media);
+    }
+
     ghost script_set = { λ w i. refl };
 
     ghost script_keeps_held = { λ w i. refl };
@@ -222,6 +255,10 @@ where
     ghost script_keeps_config = { λ w i. refl };
 
     ghost script_keeps_output = { λ w i. refl };
+
+    ghost script_keeps_shelf = { λ w i. refl };
+
+    ghost script_keeps_lent = { λ w i. refl };
 
     ghost script_keeps_faults = { λ w i. refl };
 
@@ -235,6 +272,10 @@ where
 
     ghost output_keeps_script = { λ w o. refl };
 
+    ghost output_keeps_shelf = { λ w o. refl };
+
+    ghost output_keeps_lent = { λ w o. refl };
+
     ghost output_keeps_faults = { λ w o. refl };
 
     ghost output_keeps_misses = { λ w o. refl };
@@ -243,8 +284,12 @@ where
 #[cfg(test)]
 mod tests {
     use super::{RealWorld, SteadyWrite};
+    use outside::key::Key;
+    use outside::media::MediaNames;
+    use outside::objects::Objects;
     use outside::stream::{Sink, Source};
     use outside::world::{Fail as Failure, World};
+    use std::alloc::{AllocError, Global};
     use std::fs;
     use std::test::Fail;
 
@@ -257,7 +302,7 @@ mod tests {
     fn a_file_is_read_to_its_end(rt: HostRuntime) -> Result<(), Fail> {
         let alloc = rt.alloc();
         fs::write(&rt, "script.txt", "1 ls /\n")?;
-        let mut world = RealWorld::new(rt.clone()?, Vec::new(alloc));
+        let mut world = RealWorld::new(alloc, rt.clone()?, Vec::new(alloc));
         assert_eq!(rt; world.choose("", "script.txt"), Ok(()));
         let mut buf = [0u8; 16];
         assert_eq!(rt; world.script().pull(&mut buf), Ok(7));
@@ -272,7 +317,7 @@ mod tests {
     fn a_file_that_is_not_there_counts(rt: HostRuntime) -> Result<(), Fail> {
         let alloc = rt.alloc();
         fs::write(&rt, "script.txt", "1 ls /\n")?;
-        let mut world = RealWorld::new(rt.clone()?, Vec::new(alloc));
+        let mut world = RealWorld::new(alloc, rt.clone()?, Vec::new(alloc));
         assert_eq!(rt;
             world.choose("none.txt", "script.txt"),
             Err(Failure::Failed)
@@ -287,11 +332,72 @@ mod tests {
     #[test]
     fn an_output_takes_what_it_is_given(rt: HostRuntime) -> Result<(), Fail> {
         let alloc = rt.alloc();
-        let mut world = RealWorld::new(rt.clone()?, Vec::new(alloc));
+        let mut world = RealWorld::new(alloc, rt.clone()?, Vec::new(alloc));
         assert_eq!(rt; world.out().push(b"1 ls /"), Ok(6));
         assert_eq!(rt; world.out().push(b" -> names\n"), Ok(10));
         assert_eq!(rt; world.out.out.as_slice(), b"1 ls / -> names\n".as_slice());
         assert_eq!(rt; world.out.faults, 0);
+        Ok(())
+    }
+
+    /// One store, and no worker.
+    fn one_store(alloc: Global) -> Result<MediaNames, AllocError> {
+        let mut stores = Vec::new(alloc);
+        stores.push(String::from_str(alloc, "under")?)?;
+        Ok(MediaNames {
+            stores,
+            tiers: Vec::new(alloc),
+        })
+    }
+
+    /// Writes an empty object into the first store.
+    fn write_first<O: Objects>(alloc: Global, stores: &mut [O]) -> Result<(), Failure> {
+        let key = Key::of_numbers(alloc, 1, 1)?;
+        let Some(store) = stores.first_mut() else {
+            return Err(Failure::Failed);
+        };
+        let writer = store.begin_write()?;
+        match store.finish(writer, key) {
+            Ok(()) => Ok(()),
+            Err(_) => Err(Failure::Failed),
+        }
+    }
+
+    /// Whether the first store has an object.
+    fn has_object<O: Objects>(alloc: Global, stores: &mut [O]) -> Result<bool, Failure> {
+        let Some(store) = stores.first_mut() else {
+            return Ok(false);
+        };
+        let found = store.next_key(&Key::from_names(Vec::new(alloc)), None)?;
+        Ok(found.is_some())
+    }
+
+    /// Whether the first store had an object, before one is written there.
+    fn had_object<W: World>(
+        alloc: Global,
+        world: &mut W,
+        names: &MediaNames,
+    ) -> Result<bool, Failure>
+        requires idle { W.lent world.old ≡ None }
+        requires distinct { IsTrue (are_distinct (all_names (name_lists names.now))) }
+        ensures idle { W.lent world.new ≡ None }
+    {
+        let mut media = world.assemble(names)?;
+        let had = has_object(alloc, media.stores.as_mut_slice());
+        let written = write_first(alloc, media.stores.as_mut_slice());
+        world.give_back(media);
+        written?;
+        had
+    }
+
+    #[test]
+    fn stores_keep_their_objects_while_the_world_lasts(rt: HostRuntime) -> Result<(), Fail> {
+        let alloc = rt.alloc();
+        let mut world = RealWorld::new(alloc, rt.clone()?, Vec::new(alloc));
+        let names = one_store(alloc)?;
+        assert!(rt; names.are_distinct());
+        assert_eq!(rt; had_object(alloc, &mut world, &names), Ok(false));
+        assert_eq!(rt; had_object(alloc, &mut world, &names), Ok(true));
         Ok(())
     }
 }

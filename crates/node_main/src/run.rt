@@ -149,7 +149,6 @@ fn play_script<W: World>(alloc: Global, script: &Script, world: &mut W) -> End
     ensures done { result ≡ End.Done → Plays (λ commands. commands ≡ script.now) (W.Out.taken (W.output world.old)) (W.Out.taken (W.output world.new)) }
     ensures partly { result ≡ End.WriteFault → PlaysPartly (λ commands. commands ≡ script.now) (W.Out.taken (W.output world.old)) (W.Out.taken (W.output world.new)) }
     ensures memory { result ≡ End.Memory → PlaysFront (λ commands. commands ≡ script.now) (W.Out.taken (W.output world.old)) (W.Out.taken (W.output world.new)) }
-    // The sink failed, and took a front of the played lines, or a front of the line of an end that has its cause.
     ensures write { result ≡ End.WriteFault → Rose (W.Out.faults (W.output world.old)) (W.Out.faults (W.output world.new)) }
     ensures ends { (result ≡ End.Done) ⊎ (result ≡ End.WriteFault) ⊎ (result ≡ End.Memory) }
     ensures later { W.Out.faults (W.output world.old) ≤ W.Out.faults (W.output world.new) }
@@ -328,6 +327,7 @@ pub fn run<W: World>(alloc: Global, words: &[String], world: &mut W) -> u8
 
     // A fault comes only where its count rose, or where a name isn't held.
     ensures read { result ≡ 5 → Rose (W.In.faults (W.script_input world.old)) (W.In.faults (W.script_input world.new)) × Takes (W.Out.taken (W.output world.old)) (W.Out.taken (W.output world.new)) (end_text End.ReadFault) }
+    // The sink failed, and took a front of the played lines, or a front of the line of an end that has its cause.
     ensures write { result ≡ 6 → Rose (W.Out.faults (W.output world.old)) (W.Out.faults (W.output world.new)) × WritesPartly (W.held world.old) (map string_bytes words.now) (W.Out.taken (W.output world.old)) (W.Out.taken (W.output world.new)) (Rose (W.faults world.old) (W.faults world.new)) (Rose (W.In.faults (W.script_input world.old)) (W.In.faults (W.script_input world.new))) }
     ensures open { result ≡ 10 → IsSomeAnd (play_words (map string_bytes words.now)) (λ names. Rose (W.faults world.old) (W.faults world.new) ⊎ IsTrue (is_missed (W.held world.old) names.0 names.1)) × Takes (W.Out.taken (W.output world.old)) (W.Out.taken (W.output world.new)) (end_text End.OpenFault) }
 

@@ -13,3 +13,5 @@ pub mod Readers
 pub mod Calls
 pub mod Stored
 pub mod Fates
+pub mod Shelf
+pub mod Named

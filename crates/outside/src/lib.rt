@@ -1,5 +1,6 @@
-//! All that the program reaches outside itself: where bytes come from and go to, and a world that
-//! has both. `memory` has the same in memory, told which of its calls are to fail.
+//! All that the program reaches outside itself: where bytes come from and go to, stores of objects,
+//! and a world that has all of them. `memory` has the same in memory, told which of its calls are to
+//! fail.
 #![tactic(auto)]
 
 pub mod key;

@@ -1,5 +1,7 @@
 //! Keys, and the readers, writers and objects in memory, on small tables of listed calls.
 
+mod lending;
+
 use crate::key::Key;
 use crate::memory::{ByNumber, Failing, MemObject, MemObjects, MemReader, MemWriter};
 use crate::objects::{Got, ObjectRead, ObjectWrite, Objects};

@@ -132,6 +132,13 @@ impl Book {
         find_room(&self.rooms, room)
     }
 
+    /// The number of the next reservation.
+    pub fn next(&self) -> u64
+        ensures { result ≡ self.now.next }
+    {
+        self.next
+    }
+
     /// Reserves `n` bytes at a tier of the worker that has them free, and gives the reservation's number. The
     /// numbers go up by one from 1, and stay at 2^64 - 1. The place of the later row is made too, so no other
     /// call takes memory.

@@ -1,15 +1,21 @@
 use Rattle.std.proofs.Common.{ap}
 use Rattle.inode_tree.proofs.Walks.{is_free}
-use Rattle.inode_tree.proofs.Places.{is_put, stays_in_order}
+use Rattle.inode_tree.proofs.Places.{is_put, put_differs, stays_in_order}
+use Rattle.inode_tree.proofs.Numbers.{new_differs}
+use Rattle.inode_tree.specs.Rows.{file_in_row}
 use Rattle.inode_tree.proofs.tree.Tree.add.Goals as goal
 
 pub invariant_of-self-2 : goal.invariant_of-self-2
 invariant_of-self-2 c =
     let here = c.place_of-at.ensures in
-    let none = is_free c.args.self.now.nodes c.args.path.now c.requires.absent c.requires.parent in
-    stays_in_order c.self.inside.entries.items c.deref.result.now c.insert.new.self.items c.as_slice.result.now c.place_of-at.result (record { path = c.in_ok-path.path; inode = c.of-inode.result })
-    c.deref.ensures.value c.as_slice.ensures.names here.within here.before here.after c.in_ok-insert.ensures.items
-    c.args.self.now.nodes c.args.path.now (ap (λ v. v.nodes) c.self.view_is) c.in_ok-path.ensures.cases none c.self.invariant
+    let none = is_free c.args.self.now.nodes c.args.path.now c.requires.absent c.requires.parent in (
+      stays_in_order c.self.inside.entries.items c.deref.result.now c.insert.new.self.items c.as_slice.result.now c.place_of-at.result (record { path = c.in_ok-path.path; inode = c.of-inode.result })
+          c.deref.ensures.value c.as_slice.ensures.names here.within here.before here.after c.in_ok-insert.ensures.items
+          c.args.self.now.nodes c.args.path.now (ap (λ v. v.nodes) c.self.view_is) c.in_ok-path.ensures.cases none c.self.invariant.0,
+      put_differs c.self.inside.entries.items c.deref.result.now c.insert.new.self.items c.as_slice.result.now c.place_of-at.result (record { path = c.in_ok-path.path; inode = c.of-inode.result })
+          c.deref.ensures.value c.as_slice.ensures.names here.within here.before here.after c.in_ok-insert.ensures.items
+          c.args.self.now.nodes _ (ap (λ v. v.nodes) c.self.view_is) c.of-inode.ensures (new_differs c.args.row.dir (file_in_row c.args.row) c.args.self.now.nodes c.requires.new_id) c.self.invariant.1,
+    )
 
 pub returns-clause-ok : goal.returns-clause-ok
 returns-clause-ok c =

@@ -1,0 +1,43 @@
+-- A core whose labels all have what they had stands for the same states.
+use Rattle.std.proofs.Common.{◌≡◌, ℕ, suc, ◌<◌, List, [], get_or, refl, ap, ◌∙◌, subst}
+use Rattle.std.proofs.lemmas.List.{set-get_or}
+use Rattle.fs_model.specs.declared.setup.Setup.{Setup}
+use Rattle.fs_model.specs.State.{Whole}
+use Rattle.outside.specs.declared.objects.Objects as objects
+use Rattle.outside.specs.declared.objects.ObjectRead as reads
+use Rattle.outside.specs.declared.objects.ObjectWrite as writes
+use Rattle.cluster_core.specs.Tiers.{ChangesAt}
+use Rattle.cluster_core.specs.LabelsView.{LabelsView}
+use Rattle.cluster_core.specs.HandChanges.{KeepsHands}
+use Rattle.cluster_core.specs.Kept.{KeepsRest}
+use Rattle.cluster_core.specs.Stands.{Stands, HandsStand}
+use Rattle.cluster_core.specs.declared.cluster.Core.{Core}
+use Rattle.cluster_core.specs.declared.hand.Hand.{Hand}
+use Rattle.cluster_core.specs.declared.node.Node.{Node}
+use Rattle.cluster_core.specs.Knowledge.{Knowledge}
+use Rattle.cluster_core.proofs.LabelLaws.{matches_kept}
+use Rattle.cluster_core.proofs.Actors.{hands_change}
+use Rattle.cluster_core.proofs.Labelled.{leaves_all}
+use Rattle.cluster_core.proofs.Standing.{stands_by}
+
+-- what two calls leave
+pub kept_twice : {S R W : Type 0} {w : writes.Ghosts W} (old mid new : Core S R W w) → KeepsRest old mid → KeepsRest mid new → KeepsRest old new
+kept_twice old mid new a b = record { block = b.block ∙ a.block; area = b.area ∙ a.area; names = b.names ∙ a.names; stores = b.stores ∙ a.stores }
+
+module _ {S R W : Type 0} (o : objects.Ghosts S R W) (r : reads.Ghosts R) (w : writes.Ghosts W) (U : Setup) (V : Whole) where
+  -- all labels fit still
+  hands_kept : (K : Knowledge) (nodes : List (Node S)) (next bs i : ℕ) (labels changed : List (LabelsView (Hand R W))) → i < 64 → ChangesAt labels changed i KeepsHands → HandsStand r w K nodes next bs V.hands labels → HandsStand r w K nodes next bs V.hands changed
+  hands_kept K nodes next bs i labels changed within change was =
+      subst (λ all. HandsStand r w K nodes next bs all changed) (set-get_or V.hands i [])
+      (hands_change r w K K nodes nodes next next bs i [] (leaves_all (suc i, []) K nodes next) V.hands labels changed KeepsHands was within change (get_or V.hands i []) (λ s u m c. matches_kept u m c (λ l h t f. f)))
+
+  -- and so the core stands
+  pub stands_kept : (old new : Core S R W w) (i : ℕ) → i < 64 → KeepsRest old new → new.workers ≡ old.workers → ChangesAt old.hands.items new.hands.items i KeepsHands → Stands o r w U old V → Stands o r w U new V
+  stands_kept old new i within rest workers change s = stands_by o r w U new V s.known old.block old.area old.names old.workers.items new.hands.items rest.block rest.area rest.names (ap (λ v. v.items) workers) refl (record {
+    setup = s.setup;
+    named = s.names;
+    workers = s.workers;
+    hands = hands_kept s.known old.workers.items old.names.next_id old.block i old.hands.items new.hands.items within change s.hands;
+    files = s.files;
+    objects = s.objects;
+  })

@@ -1,0 +1,18 @@
+use Rattle.inode_tree.specs.Rows.{file_in_row}
+use Rattle.cluster_core.proofs.OpenGo.{open_refused, open_short, open_done}
+use Rattle.cluster_core.proofs.opening.Core+O+O+Reader+O+Writer.open_file.Goals as goal
+
+pub returns-in-Err : goal.returns-in-Err
+returns-in-Err g c = open_refused g.O.Objects g.O.Reader.ObjectRead g.O.Writer.ObjectWrite c.args.self.now c.args.actor c.requires c.args.label.now c.args.path.now c.args.worker c.in-Err.refusal (c.in-Err.ensures).err
+
+pub returns-in-Err-prepare_label : goal.returns-in-Err-prepare_label
+returns-in-Err-prepare_label g c =
+    let did = c.prepare_label.ensures in
+    open_short g.O.Objects g.O.Reader.ObjectRead g.O.Writer.ObjectWrite c.args.self.now c.args.actor c.requires c.args.label.now c.args.path.now c.args.worker c.prepare_label.new.self did.rest did.workers did.hands
+
+pub returns-in-Ok-prepare_label : goal.returns-in-Ok-prepare_label
+returns-in-Ok-prepare_label g c =
+    let may = (c.in-Ok.ensures).ok in
+    let did = c.in-Ok-prepare_label.ensures in
+    let add = c.add_hand.ensures in
+    open_done g.O.Objects g.O.Reader.ObjectRead g.O.Writer.ObjectWrite c.args.self.now c.args.actor c.requires c.args.label.now c.args.path.now c.args.worker c.prepare_label.new.self c.add_hand.new.self (file_in_row c.in-Ok.row) c.in-Ok-prepare_label.copy did.label may.0 may.1 may.2 did.rest did.workers did.hands add.rest add.workers add.put

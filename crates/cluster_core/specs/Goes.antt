@@ -1,0 +1,83 @@
+-- That an event of the core is a step of the file machine.
+use Rattle.std.specs.Prelude.{ℕ, zero, suc, pred, ◌≡◌, List, [], ◌∷◌, Option, IsSomeAnd}
+use Rattle.fs_model.specs.declared.setup.Setup.{Setup}
+use Rattle.fs_model.specs.declared.event.Event.{Event}
+use Rattle.fs_model.specs.declared.reply.Reply.{Reply}
+use Rattle.fs_model.specs.declared.change.Change.{Change}
+use Rattle.fs_model.specs.State.{Whole}
+use Rattle.fs_model.specs.Faults.{Rise}
+use Rattle.fs_model.specs.Step.{WholeStep}
+use Rattle.outside.specs.Causes.{Rose}
+use Rattle.outside.specs.declared.objects.Objects as objects
+use Rattle.outside.specs.declared.objects.ObjectRead as reads
+use Rattle.outside.specs.declared.objects.ObjectWrite as writes
+use Rattle.file_writer.specs.Parts.{block_faults}
+use Rattle.cluster_core.specs.LabelsView.{hand_in}
+use Rattle.cluster_core.specs.Tiers.{At}
+use Rattle.cluster_core.specs.Stands.{Stands}
+use Rattle.cluster_core.specs.declared.hand.Hand.{Hand}
+use Rattle.cluster_core.specs.declared.hand.BlockSource.{BlockSource}
+use Rattle.cluster_core.specs.declared.cluster.Core.{Core}
+
+-- ---- what rose
+
+-- nothing rose
+abbrev pub no_rise : Rise
+no_rise = record { stores = []; tiers = []; journal = 0; waits = 0 }
+
+-- 1 at this place, and 0 before it
+abbrev pub one_at : ℕ → List ℕ
+one_at zero = 1 ∷ []
+one_at (suc n) = 0 ∷ one_at n
+
+-- the count of a worker's tiers rose by 1
+abbrev pub tier_rise : ℕ → Rise
+tier_rise w = record { stores = []; tiers = one_at (pred w); journal = 0; waits = 0 }
+
+-- the waits of a label's reader rose by 1
+abbrev pub wait_rise : Rise
+wait_rise = record { stores = []; tiers = []; journal = 0; waits = 1 }
+
+module _ {S R W : Type 0} (o : objects.Ghosts S R W) (r : reads.Ghosts R) (w : writes.Ghosts W) where
+  -- a count of the tier rose, of its own or of misses
+  abbrev pub TierRose : Core S R W w → Core S R W w → ℕ → ℕ → Type 0
+  TierRose old new v t = At old.workers.items new.workers.items (pred v) (λ n m. At n.tiers.items m.tiers.items t (λ s u. Rose (o.faults s) (o.faults u)))
+
+  -- the source was and is there, and its reader's count rose
+  abbrev pub SourceRose : (R → ℕ) → ℕ → Option (BlockSource R) → Option (BlockSource R) → Type 0
+  SourceRose count v s t = IsSomeAnd s (λ x. IsSomeAnd t (λ y. (x.worker ≡ v) × Rose (count x.stream.reader) (count y.stream.reader)))
+
+  -- the count of what a label has at the worker rose: of its reader, or of its open block's writer
+  abbrev pub HandRose : ℕ → Hand R W → Hand R W → Type 0
+  HandRose v (Hand.Reading x) (Hand.Reading y) = SourceRose r.faults v x.source y.source
+  HandRose v (Hand.Writing x) (Hand.Writing y) = (x.worker ≡ v) × Rose (block_faults w x.bytes.block) (block_faults w y.bytes.block)
+  HandRose v h k = ⊥
+
+  -- the waits of the label's reader rose
+  abbrev pub HandWaited : ℕ → Hand R W → Hand R W → Type 0
+  HandWaited v (Hand.Reading x) (Hand.Reading y) = SourceRose r.waits v x.source y.source
+  HandWaited v h k = ⊥
+
+  -- so it is with what one of the actor's labels has
+  abbrev pub AtLabel : Core S R W w → Core S R W w → ℕ → List ℕ → (Hand R W → Hand R W → Type 0) → Type 0
+  AtLabel old new who l P = At old.hands.items new.hands.items (pred who) (λ s t. IsSomeAnd (hand_in s l) (λ h. IsSomeAnd (hand_in t l) (λ k. P h k)))
+
+  -- what rose in an event: nothing, or by one the count of a tier, that of a label's reader or writer, or the waits of a label's reader
+  pub data Rises (old new : Core S R W w) (who : ℕ) : Rise → Type 0 where
+    Nothing : Rises old new who no_rise
+    OfTier : (v t : ℕ) → TierRose old new v t → Rises old new who (tier_rise v)
+    OfHand : (v : ℕ) (l : List ℕ) → AtLabel old new who l (HandRose v) → Rises old new who (tier_rise v)
+    OfWaits : (v : ℕ) (l : List ℕ) → AtLabel old new who l (HandWaited v) → Rises old new who wait_rise
+
+  -- there is a state for which the core stands afterwards, to which the machine goes by this step, and what rose in it are the counts that did
+  pub record Goes (U : Setup) (old new : Core S R W w) (V : Whole) (who : ℕ) (e : Event) (reply : Reply) : Type 0 where
+    pub after : Whole
+    pub rise : Rise
+    pub made : Option Change
+    pub stands : Stands o r w U new after
+    pub rises : Rises old new who rise
+    pub step : WholeStep U V (record { actor = who; event = e; reply = reply }) after (record { rise = rise; made = made })
+
+  -- so it is from every state for which the core stands
+  abbrev pub Steps : Core S R W w → Core S R W w → ℕ → Event → Reply → Type 0
+  Steps old new who e reply = (U : Setup) (V : Whole) → Stands o r w U old V → Goes U old new V who e reply

@@ -1,0 +1,11 @@
+-- What an event of the core leaves as it was.
+use Rattle.std.specs.Prelude.{◌≡◌}
+use Rattle.outside.specs.declared.objects.ObjectWrite as writes
+use Rattle.cluster_core.specs.declared.cluster.Core.{Core}
+
+-- all but the workers and what is under labels is as it was
+pub record KeepsRest {S R W : Type 0} {w : writes.Ghosts W} (old new : Core S R W w) : Type 0 where
+  pub block : new.block ≡ old.block
+  pub area : new.area ≡ old.area
+  pub names : new.names ≡ old.names
+  pub stores : new.stores ≡ old.stores
