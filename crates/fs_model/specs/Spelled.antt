@@ -32,9 +32,13 @@ is_worker_for WriteType.AsyncThrough w = is_some_worker w
 abbrev pub is_piece_len : ℕ → Bool
 is_piece_len n = nat_le 1 n && nat_le n 65536
 
--- listed bytes are bytes by their type
+-- a byte is below 256
+abbrev pub is_byte : ℕ → Bool
+is_byte b = nat_lt b 256
+
+-- 1 to 65,536 listed bytes, or as many of a generator from a place below 2^42 on
 abbrev pub is_fill : Fill → Bool
-is_fill (Fill.Listed bs) = is_piece_len (length bs)
+is_fill (Fill.Listed bs) = is_piece_len (length bs) && list_all is_byte bs
 is_fill (Fill.Made num at len) = nat_lt num 256 && nat_lt at (2 ^ 42) && is_piece_len len
 
 -- ---- events

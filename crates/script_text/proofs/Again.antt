@@ -4,18 +4,16 @@ use Rattle.std.proofs.lemmas.Bool.{cond-false}
 use Rattle.std.proofs.lemmas.List.Splits.{slice_split_none, slice_split_at}
 use Rattle.std.proofs.lemmas.List.Elements.{All-from_recursion}
 use Rattle.std.specs.List.{AllByRecursion, All, list_all, onto_first, join_with_byte}
-use Rattle.std.specs.Result.{result_ok}
-use Rattle.fs_model.specs.PathText.{parts_at, read_path}
+use Rattle.fs_model.specs.PathText.{parts_at}
 use Rattle.fs_model.specs.Words.{option_list}
-use Rattle.fs_model.specs.declared.event.Event.{Event}
-use Rattle.fs_model.proofs.Grammar.{read_again}
 use Rattle.script_text.specs.declared.script.Verb.{Verb}
 use Rattle.script_text.specs.declared.script.Command.{Command}
 use Rattle.script_text.specs.Words.{spaced}
-use Rattle.script_text.specs.ScriptForm.{is_line_byte, is_word_byte, SpellsPath, SpellsVerb, SaysNothing, SaysCommand, Says, Say, is_line, ended, last_line, SpellsScript}
-use Rattle.script_text.specs.ScriptText.{path_of, actor_of, event_named, verb_of, command_of, or_bad, said_by, read_line, lines_of, before, commands_of, read_script}
+use Rattle.script_text.specs.ScriptForm.{is_line_byte, is_word_byte, SpellsVerb, SaysNothing, SaysCommand, Says, Say, is_line, ended, last_line, SpellsScript}
+use Rattle.script_text.specs.ScriptText.{verb_of, command_of, or_bad, said_by, read_line, lines_of, before, commands_of, read_script}
 use Rattle.script_text.proofs.Bools.{both_true, or_false, not_true}
-use Rattle.script_text.proofs.Actors.{actor_again}
+use Rattle.script_text.proofs.Numbers.{number_again, number_word, number_begins}
+use Rattle.script_text.proofs.Events.{event_again}
 
 -- ---- words
 
@@ -40,26 +38,16 @@ parts_again w (v ∷ vs) h k =
     let both = both_true _ _ k in
     slice_split_at (λ x. eqb x 32) w 32 (v ++ spaced vs) (spaceless w h) refl ∙ ap (λ (xs : List (List ℕ)). w ∷ xs) (parts_again v vs both.0 both.1)
 
-path_again : (word : List ℕ) (p : List (List ℕ)) → SpellsPath word p → path_of word ≡ Some p
-path_again word p h = ap (λ x. result_ok (read_path x)) h.1 ∙ ap result_ok (read_again p h.0)
-
 -- the words of a verb are read as that verb
-abbrev ReadsVerb : Verb → List (List ℕ) → Type 0
-ReadsVerb v words = (verb : List ℕ) × (word : List ℕ) × (words ≡ verb ∷ word ∷ []) × (verb_of verb word ≡ Some v)
-
-verb_again : (v : Verb) (words : List (List ℕ)) → SpellsVerb v words → ReadsVerb v words
-verb_again (Verb.One (Event.Mkdir p)) words h = (codes "mkdir", h.0, h.1, ap (λ o. option_map (λ e. Verb.One e) (option_and_then (event_named (codes "mkdir")) o)) (path_again h.0 p h.2))
-verb_again (Verb.One (Event.List p)) words h = (codes "ls", h.0, h.1, ap (λ o. option_map (λ e. Verb.One e) (option_and_then (event_named (codes "ls")) o)) (path_again h.0 p h.2))
-verb_again (Verb.One (Event.Stat p)) words h = (codes "stat", h.0, h.1, ap (λ o. option_map (λ e. Verb.One e) (option_and_then (event_named (codes "stat")) o)) (path_again h.0 p h.2))
+verb_again : (v : Verb) (words : List (List ℕ)) → SpellsVerb v words → verb_of words ≡ Some v
+verb_again (Verb.One e) words h = ap (λ o. option_map (λ e. Verb.One e) o) (event_again e words h)
 verb_again _ words h = absurd h
 
-command_again : (c : Command) (actor : List ℕ) (words : List (List ℕ)) → actor_of actor ≡ Some c.actor → SpellsVerb c.verb words → command_of (actor ∷ words) ≡ Some c
-command_again c actor words who h =
-    let r = verb_again c.verb words h in
+command_again : (c : Command) (words : List (List ℕ)) → 1 ≤ c.actor → c.actor ≤ 64 → SpellsVerb c.verb words → command_of (decimal c.actor ∷ words) ≡ Some c
+command_again c words low high h =
     let with_verb : (o : Option Verb) → Option Command = λ (o : Option Verb). option_map (λ (v : Verb). let d : Command = record { actor = c.actor; verb = v } in d) o in
-    ap (λ (x : List (List ℕ)). command_of (actor ∷ x)) r.2
-    ∙ ap (λ (o : Option ℕ). option_and_then (λ (n : ℕ). option_map (λ (v : Verb). let d : Command = record { actor = n; verb = v } in d) (verb_of r.0 r.1)) o) who
-    ∙ ap with_verb r.3
+    ap (λ (o : Option ℕ). option_and_then (λ (n : ℕ). option_map (λ (v : Verb). let d : Command = record { actor = n; verb = v } in d) (verb_of words)) o) (number_again 1 64 c.actor low high (omega arith))
+    ∙ ap with_verb (verb_again c.verb words h)
 
 -- a line of words is no comment
 said_command : (place digit : ℕ) (rest : List ℕ) (c : Command) → (digit == 35) ≡ false → command_of (parts_at 32 (digit ∷ rest)) ≡ Some c → said_by place (digit ∷ rest) ≡ Ok (Some c)
@@ -69,12 +57,14 @@ said_command place digit rest c no_comment h = cond-false _ _ _ no_comment ∙ a
 
 says_command : (place : ℕ) (line : List ℕ) (c : Command) → SaysCommand c line → said_by place line ≡ Ok (Some c)
 says_command place line c h =
-    let who = actor_again c.actor h.from_one h.to_64 in
+    let low = h.from_one in
+    let high = h.to_64 in
+    let begins = number_begins c.actor (omega arith) in
     let text = h.joined ∙ join_first (decimal c.actor) h.words in
-    let cut = ap (parts_at 32) text ∙ parts_again (decimal c.actor) h.words who.is_word h.are_words in
-    let first = text ∙ ap (λ x. x ++ spaced h.words) who.word_is in
+    let cut = ap (parts_at 32) text ∙ parts_again (decimal c.actor) h.words (number_word c.actor (omega arith)) h.are_words in
+    let first = text ∙ ap (λ x. x ++ spaced h.words) begins.text_is in
     ap (said_by place) first
-    ∙ said_command place who.digit (who.digits ++ spaced h.words) c who.no_comment (ap (λ x. command_of (parts_at 32 x)) (sym first) ∙ ap command_of cut ∙ command_again c (decimal c.actor) h.words who.read h.spelled)
+    ∙ said_command place begins.first (begins.rest ++ spaced h.words) c begins.no_comment (ap (λ x. command_of (parts_at 32 x)) (sym first) ∙ ap command_of cut ∙ command_again c h.words low high h.spelled)
 
 says_nothing : (place : ℕ) (line : List ℕ) → SaysNothing line → said_by place line ≡ Ok None
 says_nothing place line h =

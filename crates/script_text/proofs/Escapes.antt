@@ -18,7 +18,8 @@ use Rattle.script_text.proofs.Bools.{both_true, and_true}
 abbrev is_fine : ℕ → Bool
 is_fine b = bytes_eq (encode_byte ESCAPED b) (byte_word b) && (list_all is_word_byte (byte_word b) && nat_le (length (byte_word b)) 3)
 
-abbrev all_below : (ℕ → Bool) → ℕ → Bool
+-- the test holds of each number below n
+abbrev pub all_below : (ℕ → Bool) → ℕ → Bool
 all_below test zero = true
 all_below test (suc n) = test n && all_below test n
 
@@ -26,7 +27,7 @@ computed : all_below is_fine 256 ≡ true
 unfolding should_percent_encode percent_encode_byte
 computed = refl
 
-holds_below : (test : ℕ → Bool) (n b : ℕ) → all_below test n ≡ true → b < n → test b ≡ true
+pub holds_below : (test : ℕ → Bool) (n b : ℕ) → all_below test n ≡ true → b < n → test b ≡ true
 holds_below test zero b h less = absurd (omega arith)
 holds_below test (suc n) b h less =
     let parts = both_true (test n) (all_below test n) h in

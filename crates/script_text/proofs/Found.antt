@@ -1,74 +1,32 @@
 -- What is read of a text is a script that it spells.
-use Rattle.std.proofs.Common.{◌≡◌, ℕ, ◌+◌, ◌≤◌, Bool, true, false, not, cond, nat_lt, ◌&&◌, ◌||◌, ◌==◌, List, [], ◌∷◌, ◌++◌, length, codes, Option, Some, None, option_map, option_and_then, option_to_list, Result, Ok, Err, decimal, inl, inr, refl, sym, ap, ◌∙◌, subst, arith, eqb-true, ltb-false, le-leb, bytes_eq}
-use Rattle.std.proofs.lemmas.Slice.Eq.{bytes_eq-Decides}
+use Rattle.std.proofs.Common.{◌≡◌, ℕ, ◌+◌, ◌≤◌, Bool, true, false, not, cond, nat_lt, ◌||◌, ◌==◌, List, [], ◌∷◌, ◌++◌, length, Option, Some, None, option_map, option_to_list, Result, Ok, Err, decimal, inl, inr, refl, sym, ap, ◌∙◌, subst, arith, eqb-true, ltb-false, le-leb}
 use Rattle.std.proofs.lemmas.List.Splits.{join_with_byte-slice_split}
 use Rattle.std.specs.List.{list_all, onto_first, join_with_byte}
-use Rattle.std.specs.Result.{result_ok}
-use Rattle.percent_encoding.specs.Percent.{percent_decode}
-use Rattle.fs_model.specs.PathText.{parts_at, read_path}
+use Rattle.fs_model.specs.PathText.{parts_at}
 use Rattle.fs_model.specs.Words.{option_list}
-use Rattle.fs_model.specs.declared.event.Event.{Event}
-use Rattle.fs_model.proofs.Grammar.{read_found}
 use Rattle.script_text.specs.declared.script.Verb.{Verb}
 use Rattle.script_text.specs.declared.script.Command.{Command}
 use Rattle.script_text.specs.declared.read.ScriptFault.{ScriptFault}
 use Rattle.script_text.specs.declared.read.ScriptFault.TheVariants.{BadLine}
-use Rattle.fs_model.specs.Built.{is_built}
-use Rattle.fs_model.specs.Spelled.{is_spelled}
 use Rattle.script_text.specs.Commands.{is_verb, is_command}
-use Rattle.script_text.specs.ScriptForm.{is_line_byte, is_word_byte, SpellsPath, SpellsEvent, SpellsVerb, Says, Say, is_line, ended, last_line, SpellsScript}
-use Rattle.script_text.specs.ScriptText.{path_of, actor_of, event_named, verb_of, command_of, or_bad, said_by, read_line, lines_of, before, commands_of, read_script}
+use Rattle.script_text.specs.ScriptForm.{is_line_byte, is_word_byte, SpellsVerb, Says, Say, is_line, ended, last_line, SpellsScript}
+use Rattle.script_text.specs.EventText.{number_of, event_of}
+use Rattle.script_text.specs.ScriptText.{verb_of, command_of, or_bad, said_by, read_line, lines_of, before, commands_of, read_script}
 use Rattle.script_text.proofs.Bools.{both_true, and_true, both_false, when_ok}
-use Rattle.script_text.proofs.Actors.{actor_found}
-
--- ---- options
-
-and_then_some : {A B : Type 0} (f : A → Option B) (o : Option A) (v : B) → option_and_then f o ≡ Some v → (x : A) × (o ≡ Some x) × (f x ≡ Some v)
-and_then_some f None v h = cc
-and_then_some f (Some x) v h = (x, refl, h)
-
-map_some : {A B : Type 0} (f : A → B) (o : Option A) (v : B) → option_map f o ≡ Some v → (x : A) × (o ≡ Some x) × (f x ≡ v)
-map_some f None v h = cc
-map_some f (Some x) v h = (x, refl, cc)
-
-ok_of : {A E : Type 0} (r : Result A E) (v : A) → result_ok r ≡ Some v → r ≡ Ok v
-ok_of (Ok x) v h = cc
-ok_of (Err e) v h = cc
+use Rattle.script_text.proofs.Options.{and_then_some, map_some}
+use Rattle.script_text.proofs.Numbers.{number_found}
+use Rattle.script_text.proofs.Events.{event_found}
 
 -- ---- the words of a command
-
-path_found : (word : List ℕ) (p : List (List ℕ)) → path_of word ≡ Some p → SpellsPath word p
-path_found word p h = read_found (percent_decode word) p (ok_of (read_path (percent_decode word)) p h)
-
--- an event and the words that it was read of
-abbrev IsEvent : List (List ℕ) → Event → Type 0
-IsEvent words e = SpellsEvent e words × ((is_built e && is_spelled e) ≡ true)
-
-named : (verb word : List ℕ) (path : List (List ℕ)) (e : Event) (a b c : Bool) → (a ≡ true → verb ≡ codes "mkdir") → (b ≡ true → verb ≡ codes "ls") → (c ≡ true → verb ≡ codes "stat") → SpellsPath word path
-    → cond a (Some (Event.Mkdir path)) (cond b (Some (Event.List path)) (cond c (Some (Event.Stat path)) None)) ≡ Some e → IsEvent (verb ∷ word ∷ []) e
-named verb word path e true b c mkdir ls stat p h =
-    let k : Event.Mkdir path ≡ e = cc in
-    subst (IsEvent (verb ∷ word ∷ [])) k ((word, ap (λ v. v ∷ word ∷ []) (mkdir refl), p), p.0)
-named verb word path e false true c mkdir ls stat p h =
-    let k : Event.List path ≡ e = cc in
-    subst (IsEvent (verb ∷ word ∷ [])) k ((word, ap (λ v. v ∷ word ∷ []) (ls refl), p), p.0)
-named verb word path e false false true mkdir ls stat p h =
-    let k : Event.Stat path ≡ e = cc in
-    subst (IsEvent (verb ∷ word ∷ [])) k ((word, ap (λ v. v ∷ word ∷ []) (stat refl), p), p.0)
-named verb word path e false false false mkdir ls stat p h = cc
-
-event_found : (verb word : List ℕ) (path : List (List ℕ)) (e : Event) → SpellsPath word path → event_named verb path ≡ Some e → IsEvent (verb ∷ word ∷ []) e
-event_found verb word path e p h =
-    named verb word path e (bytes_eq verb (codes "mkdir")) (bytes_eq verb (codes "ls")) (bytes_eq verb (codes "stat")) (bytes_eq-Decides _ _).0 (bytes_eq-Decides _ _).0 (bytes_eq-Decides _ _).0 p h
 
 abbrev IsVerb : List (List ℕ) → Verb → Type 0
 IsVerb words v = SpellsVerb v words × (is_verb v ≡ true)
 
-verb_found : (verb word : List ℕ) (v : Verb) → verb_of verb word ≡ Some v → IsVerb (verb ∷ word ∷ []) v
-verb_found verb word v h =
-    let m = map_some (λ e. Verb.One e) (option_and_then (event_named verb) (path_of word)) v h in
-    let a = and_then_some (event_named verb) (path_of word) m.0 m.1 in
-    subst (IsVerb (verb ∷ word ∷ [])) m.2 (event_found verb word a.0 m.0 (path_found word a.0 a.1) a.2)
+verb_found : (words : List (List ℕ)) (v : Verb) → verb_of words ≡ Some v → IsVerb words v
+verb_found words v h =
+    let m = map_some (λ e. Verb.One e) (event_of words) v h in
+    let found = event_found words m.0 m.1 in
+    subst (IsVerb words) m.2 (found, and_true _ _ found.0 found.1)
 
 -- a command and the words that it was read of
 record IsCommand (words : List (List ℕ)) (c : Command) : Type 0 where
@@ -80,20 +38,17 @@ record IsCommand (words : List (List ℕ)) (c : Command) : Type 0 where
 
 command_found : (words : List (List ℕ)) (c : Command) → command_of words ≡ Some c → IsCommand words c
 command_found [] c h = cc
-command_found (a ∷ []) c h = cc
-command_found (a ∷ verb ∷ []) c h = cc
-command_found (a ∷ verb ∷ word ∷ []) c h =
-    let n = and_then_some (λ (n : ℕ). option_map (λ (v : Verb). let d : Command = record { actor = n; verb = v } in d) (verb_of verb word)) (actor_of a) c h in
-    let v = map_some (λ (v : Verb). let d : Command = record { actor = n.0; verb = v } in d) (verb_of verb word) c n.2 in
-    let who = actor_found a n.0 n.1 in
-    subst (IsCommand (a ∷ verb ∷ word ∷ [])) v.2 (record {
-      rest = verb ∷ word ∷ [];
-      words_are = ap (λ x. x ∷ verb ∷ word ∷ []) who.word_is;
-      from_one = who.from_one;
-      to_64 = who.to_64;
-      verb_is = verb_found verb word v.0 v.1;
+command_found (a ∷ words) c h =
+    let n = and_then_some (λ (n : ℕ). option_map (λ (v : Verb). let d : Command = record { actor = n; verb = v } in d) (verb_of words)) (number_of 1 64 a) c h in
+    let v = map_some (λ (v : Verb). let d : Command = record { actor = n.0; verb = v } in d) (verb_of words) c n.2 in
+    let who = number_found 1 64 a n.0 (omega arith) n.1 in
+    subst (IsCommand (a ∷ words)) v.2 (record {
+      rest = words;
+      words_are = ap (λ x. x ∷ words) who.word_is;
+      from_one = who.from_least;
+      to_64 = who.to_most;
+      verb_is = verb_found words v.0 v.1;
     })
-command_found (a ∷ verb ∷ word ∷ x ∷ more) c h = cc
 
 is_fine : (words : List (List ℕ)) (c : Command) → IsCommand words c → is_command c ≡ true
 is_fine words c k = and_true _ _ (and_true _ _ (le-leb 1 c.actor k.from_one) (le-leb c.actor 64 k.to_64)) k.verb_is.1

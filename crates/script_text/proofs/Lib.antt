@@ -1,8 +1,11 @@
 pub mod Bools
+pub mod Options
 pub mod Lines
 pub mod Escapes
 pub mod Paths
-pub mod Actors
+pub mod Numbers
+pub mod Fills
+pub mod Events
 pub mod Found
 pub mod Again
 pub mod Canonical

@@ -1,11 +1,16 @@
 -- What text spells a script, said without its reader.
-use Rattle.std.specs.Prelude.{ℕ, ◌≡◌, ◌≤◌, ◌⊎◌, Bool, true, not, ◌&&◌, ◌==◌, nat_le, List, [], ◌∷◌, ◌++◌, codes, length, Option, Some, None}
+use Rattle.std.specs.Prelude.{ℕ, ◌≡◌, ◌≤◌, ◌⊎◌, Bool, true, not, ◌&&◌, ◌==◌, nat_le, List, [], ◌∷◌, ◌++◌, codes, length, Option, Some, None, Ok}
 use Rattle.std.specs.List.{flat_map, list_all, join_with_byte}
 use Rattle.std.specs.Fmt.{decimal}
+use Rattle.hex.specs.Hex.{decode_of}
 use Rattle.percent_encoding.specs.Percent.{percent_decode}
 use Rattle.fs_model.specs.PathForm.{is_path, path_text}
 use Rattle.fs_model.specs.Words.{option_list}
+use Rattle.fs_model.specs.Built.{is_built}
+use Rattle.fs_model.specs.Spelled.{is_spelled}
 use Rattle.fs_model.specs.declared.event.Event.{Event}
+use Rattle.fs_model.specs.declared.event.Fill.{Fill}
+use Rattle.script_text.specs.LineText.{write_type_word, read_type_word}
 use Rattle.script_text.specs.declared.script.Verb.{Verb}
 use Rattle.script_text.specs.declared.script.Command.{Command}
 
@@ -23,16 +28,34 @@ is_word_byte b = not (b == 32) && is_line_byte b
 abbrev pub SpellsPath : List ℕ → List (List ℕ) → Type 0
 SpellsPath word path = (is_path path ≡ true) × (percent_decode word ≡ path_text path)
 
--- two words: this first one, and one that stands for the path
-abbrev pub VerbAndPath : List ℕ → List (List ℕ) → List (List ℕ) → Type 0
-VerbAndPath verb path words = (word : List ℕ) × (words ≡ verb ∷ word ∷ []) × SpellsPath word path
+-- a word that stands for a fill: `x:` and hexadecimal digits in either case, or `g:` and three numbers with a
+-- colon between them
+abbrev pub SpellsFill : List ℕ → Fill → Type 0
+SpellsFill word (Fill.Listed bytes) = (digits : List ℕ) × (word ≡ codes "x:" ++ digits) × (decode_of digits ≡ Ok bytes)
+SpellsFill word (Fill.Made num at len) = word ≡ codes "g:" ++ decimal num ++ codes ":" ++ decimal at ++ codes ":" ++ decimal len
 
--- the words that stand for an event; those that aren't built have none
+-- words of this form, in which one word stands for the path
+abbrev pub WithPath : (List ℕ → List (List ℕ)) → List (List ℕ) → List (List ℕ) → Type 0
+WithPath form path words = (word : List ℕ) × (words ≡ form word) × SpellsPath word path
+
+-- the first word of an event and those behind it, whatever the bounds of its parts; events that aren't built have none
+abbrev pub IsWordsOf : Event → List (List ℕ) → Type 0
+IsWordsOf (Event.Mkdir path) words = WithPath (λ p. codes "mkdir" ∷ p ∷ []) path words
+IsWordsOf (Event.Create label path kind worker) words = WithPath (λ p. codes "create" ∷ label ∷ p ∷ write_type_word kind ∷ decimal worker ∷ []) path words
+IsWordsOf (Event.List path) words = WithPath (λ p. codes "ls" ∷ p ∷ []) path words
+IsWordsOf (Event.Stat path) words = WithPath (λ p. codes "stat" ∷ p ∷ []) path words
+IsWordsOf (Event.Room label) words = words ≡ codes "room" ∷ label ∷ []
+IsWordsOf (Event.Put label fill) words = (f : List ℕ) × (words ≡ codes "put" ∷ label ∷ f ∷ []) × SpellsFill f fill
+IsWordsOf (Event.Finish label) words = words ≡ codes "done" ∷ label ∷ []
+IsWordsOf (Event.OpenFile label path kind worker) words = WithPath (λ p. codes "open" ∷ label ∷ p ∷ read_type_word kind ∷ decimal worker ∷ []) path words
+IsWordsOf (Event.Next label) words = words ≡ codes "next" ∷ label ∷ []
+IsWordsOf (Event.Poll label limit) words = words ≡ codes "poll" ∷ label ∷ decimal limit ∷ []
+IsWordsOf (Event.Close label) words = words ≡ codes "close" ∷ label ∷ []
+IsWordsOf _ words = ⊥
+
+-- the words that stand for an event: it is built, and its parts are what a script can spell
 abbrev pub SpellsEvent : Event → List (List ℕ) → Type 0
-SpellsEvent (Event.Mkdir path) words = VerbAndPath (codes "mkdir") path words
-SpellsEvent (Event.List path) words = VerbAndPath (codes "ls") path words
-SpellsEvent (Event.Stat path) words = VerbAndPath (codes "stat") path words
-SpellsEvent _ words = ⊥
+SpellsEvent event words = (is_built event ≡ true) × (is_spelled event ≡ true) × IsWordsOf event words
 
 -- the words that stand for a verb; the compound ones aren't built
 abbrev pub SpellsVerb : Verb → List (List ℕ) → Type 0

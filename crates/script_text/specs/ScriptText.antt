@@ -1,43 +1,21 @@
 -- How the text of a script is read.
-use Rattle.std.specs.Prelude.{ℕ, ◌≡◌, ◌+◌, ◌-◌, ◌*◌, ◌&&◌, ◌||◌, ◌==◌, nat_le, nat_lt, List, [], ◌∷◌, length, codes, Option, None, Some, Result, Ok, Err, if◌then◌else◌, option_map, option_and_then}
+use Rattle.std.specs.Prelude.{ℕ, ◌≡◌, ◌+◌, ◌||◌, ◌==◌, nat_lt, List, [], ◌∷◌, length, Option, None, Some, Result, Ok, Err, if◌then◌else◌, option_map, option_and_then}
 use Rattle.std.specs.List.{onto_first}
-use Rattle.std.specs.Result.{result_ok}
-use Rattle.std.specs.Char.{is_ascii_digit}
-use Rattle.std.specs.Str.{bytes_eq}
-use Rattle.percent_encoding.specs.Percent.{percent_decode}
-use Rattle.fs_model.specs.PathText.{parts_at, read_path}
-use Rattle.fs_model.specs.declared.event.Event.{Event}
+use Rattle.fs_model.specs.PathText.{parts_at}
 use Rattle.script_text.specs.declared.script.Verb.{Verb}
 use Rattle.script_text.specs.declared.script.Command.{Command}
 use Rattle.script_text.specs.declared.read.ScriptFault.{ScriptFault}
 use Rattle.script_text.specs.declared.read.ScriptFault.TheVariants.{BadLine, Memory}
+use Rattle.script_text.specs.EventText.{number_of, event_of}
 
--- the path that a word stands for, once its escapes are decoded
-abbrev pub path_of : List ℕ → Option (List (List ℕ))
-path_of word = result_ok (read_path (percent_decode word))
+-- the verb of these words
+abbrev pub verb_of : List (List ℕ) → Option Verb
+verb_of words = option_map (λ e. Verb.One e) (event_of words)
 
--- a number from 1 to 64 without needless zeros
-abbrev pub actor_of : List ℕ → Option ℕ
-actor_of [] = None
-actor_of (a ∷ []) = if nat_le 49 a && nat_le a 57 then Some (a - 48) else None
-actor_of (a ∷ b ∷ []) = if nat_le 49 a && nat_le a 57 && is_ascii_digit b && nat_le (10 * (a - 48) + (b - 48)) 64 then Some (10 * (a - 48) + (b - 48)) else None
-actor_of (a ∷ b ∷ c ∷ more) = None
-
--- the event of this word at a path
-abbrev pub event_named : List ℕ → List (List ℕ) → Option Event
-event_named verb path =
-    if bytes_eq verb (codes "mkdir") then Some (Event.Mkdir path)
-    else (if bytes_eq verb (codes "ls") then Some (Event.List path)
-    else (if bytes_eq verb (codes "stat") then Some (Event.Stat path) else None))
-
--- the verb of these two words
-abbrev pub verb_of : List ℕ → List ℕ → Option Verb
-verb_of verb word = option_map (λ e. Verb.One e) (option_and_then (event_named verb) (path_of word))
-
--- the command of these words
+-- the command of an actor, 1 to 64, and the words of a verb
 abbrev pub command_of : List (List ℕ) → Option Command
-command_of (actor ∷ verb ∷ word ∷ []) = option_and_then (λ n. option_map (λ v. record { actor = n; verb = v }) (verb_of verb word)) (actor_of actor)
-command_of _ = None
+command_of [] = None
+command_of (actor ∷ words) = option_and_then (λ n. option_map (λ v. record { actor = n; verb = v }) (verb_of words)) (number_of 1 64 actor)
 
 -- a line whose words are none of a command is a bad line
 abbrev pub or_bad : ℕ → Option Command → Result (Option Command) ScriptFault

@@ -8,14 +8,13 @@ ghost use Rattle.fs_model.specs.PathText.{slices};
 ghost use Rattle.script_text.specs.declared.script.Command.{Command};
 ghost use Rattle.script_text.specs.Commands.{is_command, commands_text};
 ghost use Rattle.script_text.specs.ScriptForm.{SpellsScript};
-ghost use Rattle.script_text.specs.ScriptText.{path_of, actor_of, event_named, verb_of, command_of, read_line, lines_of, commands_of, read_script, Gives};
+ghost use Rattle.script_text.specs.ScriptText.{verb_of, command_of, read_line, lines_of, commands_of, read_script, Gives};
 
+use crate::argument::number_of;
+use crate::event::event_of;
 use crate::script::{Command, Script, Verb};
 use fs_model::cut::cut;
-use fs_model::event::Event;
 use fs_model::numbers::Actor;
-use fs_model::path::{Path, PathFault};
-use percent_encoding::percent_decode;
 use std::alloc::{AllocError, AllocFailed, Global};
 use thiserror::Error;
 
@@ -52,57 +51,11 @@ impl<T: Drop> From<AllocFailed<T>> for ScriptFault {
     }
 }
 
-/// The path that a word stands for, or `None`.
-fn path_of(alloc: Global, word: &[u8]) -> Result<Option<Path>, AllocError>
-    ensures { IfOk result (λ found. found ≡ path_of word.now) }
+/// The verb of these words.
+fn verb_of(alloc: Global, words: &[&[u8]]) -> Result<Option<Verb>, AllocError>
+    ensures { IfOk result (λ found. found ≡ verb_of (slices words.now)) }
 {
-    let mut text = Vec::new(alloc);
-    percent_decode(word).append_to(&mut text)?;
-    match Path::read(alloc, &text) {
-        Ok(path) => Ok(Some(path)),
-        Err(PathFault::Memory) => Err(AllocError),
-        Err(_) => Ok(None),
-    }
-}
-
-/// The number of an actor, 1 to 64.
-fn actor_of(word: &[u8]) -> Option<u32>
-    ensures { result ≡ actor_of word.now }
-{
-    match word {
-        [a @ b'1'..=b'9'] => Some(u32::from(*a - b'0')),
-        [a @ b'1'..=b'9', b @ b'0'..=b'9'] => {
-            let n = 10 * u32::from(*a - b'0') + u32::from(*b - b'0');
-            if n <= 64 { Some(n) } else { None }
-        }
-        _ => None,
-    }
-}
-
-/// The event of this word at a path.
-fn event_named(verb: &[u8], path: Path) -> Option<Event>
-    ensures { result ≡ event_named verb.now path }
-{
-    if verb == b"mkdir".as_slice() {
-        return Some(Event::Mkdir { path });
-    }
-    if verb == b"ls".as_slice() {
-        return Some(Event::List { path });
-    }
-    if verb == b"stat".as_slice() {
-        return Some(Event::Stat { path });
-    }
-    None
-}
-
-/// The verb of these two words.
-fn verb_of(alloc: Global, verb: &[u8], word: &[u8]) -> Result<Option<Verb>, AllocError>
-    ensures { IfOk result (λ found. found ≡ verb_of verb.now word.now) }
-{
-    let Some(path) = path_of(alloc, word)? else {
-        return Ok(None);
-    };
-    match event_named(verb, path) {
+    match event_of(alloc, words)? {
         Some(event) => Ok(Some(Verb::One(event))),
         None => Ok(None),
     }
@@ -112,15 +65,15 @@ fn verb_of(alloc: Global, verb: &[u8], word: &[u8]) -> Result<Option<Verb>, Allo
 fn command_of(alloc: Global, words: &[&[u8]]) -> Result<Option<Command>, AllocError>
     ensures { IfOk result (λ found. found ≡ command_of (slices words.now)) }
 {
-    let [actor, verb, word] = words else {
+    let [actor, words @ ..] = words else {
         return Ok(None);
     };
-    let Some(number) = actor_of(actor) else {
+    let Some(actor) = number_of(actor, 1, 64) else {
         return Ok(None);
     };
-    match verb_of(alloc, verb, word)? {
+    match verb_of(alloc, words)? {
         Some(verb) => Ok(Some(Command {
-            actor: Actor(number),
+            actor: Actor(actor as u32),
             verb,
         })),
         None => Ok(None),

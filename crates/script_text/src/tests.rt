@@ -35,8 +35,12 @@ fn bad_lines_are_named(rt: HostRuntime) {
         (b"1 ls / /", 1),
         (b"1 list /", 1),
         (b"1 LS /", 1),
-        (b"1 create f /a THROUGH 0", 1),
         (b"1 copyin f /a THROUGH 0 1 1", 1),
+        (b"1 cat r /a NO_CACHE 0", 1),
+        (b"1 up 1", 1),
+        (b"1 rename /a /b", 1),
+        (b"1 job j /a", 1),
+        (b"1 pump 1", 1),
         (b"1 tick", 1),
         (b"1 ls /a//b", 1),
         (b"1 ls /a/", 1),
@@ -64,6 +68,150 @@ fn bad_lines_are_named(rt: HostRuntime) {
         };
         assert_eq!(rt; fault, line, "at {text:?}");
     }
+}
+
+#[test]
+fn bad_events_are_named(rt: HostRuntime) {
+    let cases = [
+        b"1 create f /a THROUGH 0".as_slice(),
+        b"1 create f /a CACHE_THROUGH 1",
+        b"1 create f /a ASYNC_THROUGH 1",
+        b"1 create f /a must_cache 1",
+        b"1 create f /a MUST_CACHE",
+        b"1 create f /a MUST_CACHE 0",
+        b"1 create f /a MUST_CACHE 1001",
+        b"1 create f /a MUST_CACHE 01",
+        b"1 create f /a MUST_CACHE +1",
+        b"1 create f /a MUST_CACHE 1 1",
+        b"1 create /a f MUST_CACHE 1",
+        b"1 create F /a MUST_CACHE 1",
+        b"1 create %66 /a MUST_CACHE 1",
+        b"1 create f a MUST_CACHE 1",
+        b"1 open f /a NO_CACHE",
+        b"1 open f /a NO_CACHE 1001",
+        b"1 open f /a NO_CACHE 00",
+        b"1 open f /a CACHE 1",
+        b"1 open f /a CACHE_PROMOTE 1",
+        b"1 open f /a MUST_CACHE 1",
+        b"1 open /a f NO_CACHE 1",
+        b"1 room",
+        b"1 room f g",
+        b"1 room a1b2c3d4e5f6g7h8i",
+        b"1 done /a",
+        b"1 next f 1",
+        b"1 close f ",
+        b"1 finish f",
+        b"1 poll f",
+        b"1 poll f 0",
+        b"1 poll f 65537",
+        b"1 poll f 010",
+        b"1 poll f -1",
+        b"1 poll f 18446744073709551617",
+        b"1 poll 4 f",
+        b"1 put f",
+        b"1 put f x:",
+        b"1 put f x:0",
+        b"1 put f x:012",
+        b"1 put f x:0g",
+        b"1 put f x:00 00",
+        b"1 put f X:00",
+        b"1 put f y:00",
+        b"1 put f x00",
+        b"1 put f 00",
+        b"1 put f g:0:0",
+        b"1 put f g:0:0:",
+        b"1 put f g:0:0:0",
+        b"1 put f g:0:0:1:1",
+        b"1 put f g:256:0:1",
+        b"1 put f g:0:4398046511104:1",
+        b"1 put f g:0:0:65537",
+        b"1 put f g:00:0:1",
+        b"1 put f g:0::1",
+        b"1 put f g::0:1",
+        b"1 put f x:0:0:1",
+    ];
+    for text in cases {
+        let fault = read_script(rt.alloc(), text).err();
+        assert_eq!(rt; fault, Some(ScriptFault::BadLine(1)), "at {text:?}");
+    }
+}
+
+/// The line of a command of one event, with the reply `done` and actor 1.
+fn told(alloc: Global, command: &Command) -> Result<Vec<u8>, Fail> {
+    match &command.verb {
+        Verb::One(event) => written(alloc, event.clone()?, Reply::Done),
+        _ => Err(Fail::new("no event")),
+    }
+}
+
+#[test]
+fn events_are_read(rt: HostRuntime) -> Result<(), Fail> {
+    let alloc = rt.alloc();
+    let cases = [
+        (
+            b"1 create f /big MUST_CACHE 1".as_slice(),
+            b"1 create f /big MUST_CACHE 1 -> done\n".as_slice(),
+        ),
+        (
+            b"1 create a1b2c3d4e5f6g7h8 %2fa%20b MUST_CACHE 1000\n",
+            b"1 create a1b2c3d4e5f6g7h8 /a%20b MUST_CACHE 1000 -> done\n",
+        ),
+        (b"1 room f", b"1 room f -> done\n"),
+        (b"1 put f x:00", b"1 put f x:00 -> done\n"),
+        (b"1 put f x:0aAF09", b"1 put f x:0aaf09 -> done\n"),
+        (
+            b"1 put f g:7:65536:3392",
+            b"1 put f g:7:65536:3392 -> done\n",
+        ),
+        (
+            b"1 put f g:255:4398046511103:65536",
+            b"1 put f g:255:4398046511103:65536 -> done\n",
+        ),
+        (b"1 put 0 g:0:0:1", b"1 put 0 g:0:0:1 -> done\n"),
+        (b"1 done f", b"1 done f -> done\n"),
+        (
+            b"1 open r /big NO_CACHE 0",
+            b"1 open r /big NO_CACHE 0 -> done\n",
+        ),
+        (
+            b"1 open r / NO_CACHE 1000",
+            b"1 open r / NO_CACHE 1000 -> done\n",
+        ),
+        (b"1 next r", b"1 next r -> done\n"),
+        (b"1 poll r 1", b"1 poll r 1 -> done\n"),
+        (b"1 poll r 65536", b"1 poll r 65536 -> done\n"),
+        (b"1 close r", b"1 close r -> done\n"),
+    ];
+    for (text, line) in cases {
+        let script = read_script(alloc, text)?;
+        let [command] = script.commands() else {
+            return Err(Fail::new("no command"));
+        };
+        assert_eq!(rt; told(alloc, command)?.as_slice(), line, "at {text:?}");
+    }
+    Ok(())
+}
+
+/// The text of a put of this many bytes, each 0.
+fn put_of(alloc: Global, count: u32) -> Result<Vec<u8>, Fail> {
+    let mut text = Vec::from_slice(alloc, b"1 put f x:")?;
+    for _ in 0..count {
+        text.extend_from_slice(b"00")?;
+    }
+    Ok(text)
+}
+
+#[test]
+fn puts_have_a_greatest_length(rt: HostRuntime) -> Result<(), Fail> {
+    let alloc = rt.alloc();
+    let most = put_of(alloc, 65_536)?;
+    assert_eq!(rt; read_script(alloc, &most)?.commands().len(), 1);
+    let more = put_of(alloc, 65_537)?;
+    assert_eq!(rt;
+        read_script(alloc, &more).err(),
+        Some(ScriptFault::BadLine(1))
+    );
+    Ok(())
 }
 
 /// The word and the path of a command.
