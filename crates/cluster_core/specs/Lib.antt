@@ -2,6 +2,7 @@ pub mod LabelsView
 pub mod LabelSlots
 pub mod Hands
 pub mod NamesView
+pub mod Media
 pub mod Names
 pub mod NamesStand
 pub mod Tests

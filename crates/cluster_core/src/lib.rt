@@ -22,6 +22,7 @@ mod putting;
 mod reading;
 mod rooming;
 mod stating;
+pub mod step;
 mod supplying;
 mod taking;
 mod writers;

@@ -1,0 +1,22 @@
+-- What an event leaves of the stores and of the workers' tiers, whatever the core stands for.
+use Rattle.std.specs.Prelude.{ℕ, ◌≡◌, ◌≤◌, List, length, slice_get, Some}
+use Rattle.outside.specs.declared.objects.Objects as objects
+use Rattle.outside.specs.declared.objects.ObjectWrite as writes
+use Rattle.cluster_core.specs.declared.node.Node.{Node}
+use Rattle.cluster_core.specs.declared.cluster.Core.{Core}
+
+module _ {S R W : Type 0} (o : objects.Ghosts S R W) where
+  -- the worker has as many tiers as before, and no tier's count fell
+  pub record TiersStay (old new : Node S) : Type 0 where
+    pub same_length : length new.tiers.items ≡ length old.tiers.items
+    pub faults : (t : ℕ) (s u : S) → slice_get old.tiers.items t ≡ Some s → slice_get new.tiers.items t ≡ Some u → o.faults s ≤ o.faults u
+
+  -- so it is with each worker
+  pub record NodesStay (old new : List (Node S)) : Type 0 where
+    pub same_length : length new ≡ length old
+    pub each : (i : ℕ) (n m : Node S) → slice_get old i ≡ Some n → slice_get new i ≡ Some m → TiersStay n m
+
+  -- the stores are as they were, and so it is with each worker
+  pub record MediaStays {w : writes.Ghosts W} (old new : Core S R W w) : Type 0 where
+    pub stores : new.stores ≡ old.stores
+    pub workers : NodesStay old.workers.items new.workers.items
