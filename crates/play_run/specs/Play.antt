@@ -1,0 +1,97 @@
+-- What a play of a script tells.
+use Rattle.std.specs.Prelude.{ℕ, ◌≡◌, ◌≤◌, ◌+◌, List, [], ◌∷◌, ◌++◌, map, length, take, drop, Option}
+use Rattle.fs_model.specs.declared.setup.Setup.{Setup}
+use Rattle.fs_model.specs.declared.reply.Line.{Line}
+use Rattle.fs_model.specs.State.{Whole}
+use Rattle.fs_model.specs.Step.{Observation, Run}
+use Rattle.outside.specs.Streams.{Takes}
+use Rattle.outside.specs.declared.media.Media.{Media}
+use Rattle.outside.specs.declared.objects.Objects as objects
+use Rattle.outside.specs.declared.objects.ObjectRead as reads
+use Rattle.outside.specs.declared.objects.ObjectWrite as writes
+use Rattle.script_text.specs.declared.script.Command.{Command}
+use Rattle.script_text.specs.declared.script.Verb.{Verb}
+use Rattle.script_text.specs.LineText.{lines_text}
+use Rattle.cluster_core.specs.Goes.{Rises, Steps}
+use Rattle.cluster_core.specs.Stands.{Stands}
+use Rattle.cluster_core.specs.declared.cluster.Core.{Core}
+
+-- ---- lines of commands
+
+-- the line has the actor and the one event of the command
+pub record Says (command : Command) (line : Line) : Type 0 where
+  pub actor : line.actor ≡ command.actor
+  pub verb : command.verb ≡ Verb.One line.event
+
+-- the events of the lines are those of the commands, each once and in their order
+abbrev pub Played : List Command → List Line → Type 0
+Played [] [] = Unit {0}
+Played (c ∷ cs) (l ∷ ls) = Says c l × Played cs ls
+Played [] (l ∷ ls) = ⊥
+Played (c ∷ cs) [] = ⊥
+
+module _ {S R W : Type 0} (o : objects.Ghosts S R W) (r : reads.Ghosts R) (w : writes.Ghosts W) where
+  -- the line tells one step of the command
+  pub record Acts (command : Command) (line : Line) (old new : Core S R W w) : Type 0 where
+    pub says : Says command line
+    pub steps : Steps o r w old new line.actor line.event line.reply
+
+  -- ---- runs
+
+  -- there are cores from one line to the next, between which the counts rose as observed
+  abbrev pub RiseAlong : Core S R W w → List Line → List Observation → Core S R W w → Type 0
+  RiseAlong old [] [] new = new ≡ old
+  RiseAlong old (line ∷ lines) (seen ∷ more) new = (mid : Core S R W w) × Rises o r w old mid line.actor seen.rise × RiseAlong mid lines more new
+  RiseAlong old [] (seen ∷ more) new = ⊥
+  RiseAlong old (line ∷ lines) [] new = ⊥
+
+  -- the lines are a run of the machine for these commands, to a state that the core stands for then, and each rise in it is that of real counts in that event
+  pub record Ran (U : Setup) (commands : List Command) (V : Whole) (old : Core S R W w) (lines : List Line) (new : Core S R W w) : Type 0 where
+    pub played : Played commands lines
+    pub after : Whole
+    pub seen : List Observation
+    pub run : Run U V lines after seen
+    pub rose : RiseAlong old lines seen new
+    pub stands : Stands o r w U new after
+
+  -- ---- what the sink took
+
+  -- the texts of the lines of such a run
+  pub record Tells (U : Setup) (commands : List Command) (V : Whole) (old new : Core S R W w) (before after : Option (List ℕ)) : Type 0 where
+    pub lines : List Line
+    pub ran : Ran U commands V old lines new
+    pub text : Takes before after (lines_text lines)
+
+  -- so it is for the first of the commands, but that the last line may not have been told
+  pub record TellsFront (U : Setup) (commands : List Command) (V : Whole) (old new : Core S R W w) (before after : Option (List ℕ)) : Type 0 where
+    pub count : ℕ
+    pub lines : List Line
+    pub ran : Ran U (take count commands) V old lines new
+    pub told : ℕ
+    pub late : length lines ≤ told + 1
+    pub text : Takes before after (lines_text (take told lines))
+
+  -- so it is for the first of the commands, but that a front of the text was taken, which has all lines but the last
+  pub record TellsPartly (U : Setup) (commands : List Command) (V : Whole) (old new : Core S R W w) (before after : Option (List ℕ)) : Type 0 where
+    pub count : ℕ
+    pub lines : List Line
+    pub ran : Ran U (take count commands) V old lines new
+    pub told : ℕ
+    pub late : length lines ≤ told + 1
+    pub bytes : ℕ
+    pub text : Takes before after (lines_text (take told lines) ++ take bytes (lines_text (drop told lines)))
+
+  -- ---- over media
+
+  -- the core has these stores and tiers
+  pub record IsOver (core : Core S R W w) (media : Media S) : Type 0 where
+    pub stores : core.stores ≡ media.stores
+    pub tiers : map (λ n. n.tiers) core.workers.items ≡ media.tiers.items
+
+  -- P holds from a core over the media at the beginning to one over those that are given back
+  pub record Between (media back : Media S) (P : Core S R W w → Core S R W w → Type 0) : Type 0 where
+    pub first : Core S R W w
+    pub last : Core S R W w
+    pub opened : IsOver first media
+    pub closed : IsOver last back
+    pub holds : P first last
