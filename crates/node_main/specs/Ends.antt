@@ -2,18 +2,26 @@
 use Rattle.std.specs.Prelude.{ℕ, ◌≡◌, ◌⊎◌, ◌<◌, length, nat_lt, take, ⊤, List, [], ◌∷◌, ◌++◌, codes, IsSomeAnd, IsTrue, Result, Ok, Err, Option, Some, None, if◌then◌else◌}
 use Rattle.std.specs.Fmt.{decimal}
 use Rattle.fs_model.specs.State.{Whole}
+use Rattle.fs_model.specs.declared.stop.Stop.{Stop}
 use Rattle.fs_model.specs.Begins.{Begins}
 use Rattle.fs_model.specs.Examples.{two_workers}
 use Rattle.outside.specs.Inputs.{named, is_missed}
+use Rattle.outside.specs.Shelf.{EachNamed, HasShape, NameLists, Shelf, TellsHeld}
 use Rattle.outside.specs.Streams.{Takes}
+use Rattle.outside.specs.declared.media.Media.{Media}
+use Rattle.outside.specs.declared.objects.Objects as objects
+use Rattle.outside.specs.declared.objects.ObjectRead as reads
+use Rattle.outside.specs.declared.objects.ObjectWrite as writes
 use Rattle.script_text.specs.declared.script.Command.{Command}
 use Rattle.script_text.specs.declared.read.ScriptFault.{ScriptFault}
 use Rattle.script_text.specs.declared.read.ScriptFault.TheVariants.{BadLine, Memory}
 use Rattle.script_text.specs.ScriptText.{read_script}
+use Rattle.cluster_core.specs.Begun.{TiersEmpty}
+use Rattle.cluster_core.specs.declared.cluster.Core.{Core}
+use Rattle.play_run.specs.Play.{Between, Tells, TellsFront, TellsPartly}
 use Rattle.node_main.specs.declared.run.End.{End}
 use Rattle.node_main.specs.declared.run.End.TheVariants as ends
 use Rattle.node_main.specs.declared.run.TheConstants.{LIMIT}
-use Rattle.node_main.specs.Play.{Tells, TellsFront, TellsPartly}
 use Rattle.node_main.specs.Words.{play_words}
 
 -- what a world holds under each name
@@ -24,23 +32,38 @@ Held = List ℕ → Option (List ℕ)
 abbrev pub end_text : End → List ℕ
 end_text ends.Done = []
 end_text ends.BadWords = codes "stopped 2 BadWords\n"
+end_text ends.BadSetup = codes "stopped 3 BadConfig store\n"
 end_text (ends.BadScript line) = codes "stopped 4 BadScript " ++ decimal line ++ 10 ∷ []
 end_text ends.ReadFault = codes "stopped 5 ReadFault\n"
 end_text ends.WriteFault = []
+end_text (ends.Damaged area place) = codes "stopped 7 Damaged " ++ decimal area ++ 32 ∷ decimal place ++ 10 ∷ []
 end_text ends.Memory = codes "stopped 8 Memory\n"
 end_text ends.TooLong = codes "stopped 9 TooLong\n"
 end_text ends.OpenFault = codes "stopped 10 OpenFault\n"
+end_text ends.JournalFault = codes "stopped 11 JournalFault\n"
 
 -- the status of each end
 abbrev pub status_of : End → ℕ
 status_of ends.Done = 0
 status_of ends.BadWords = 2
+status_of ends.BadSetup = 3
 status_of (ends.BadScript line) = 4
 status_of ends.ReadFault = 5
 status_of ends.WriteFault = 6
+status_of (ends.Damaged area place) = 7
 status_of ends.Memory = 8
 status_of ends.TooLong = 9
 status_of ends.OpenFault = 10
+status_of ends.JournalFault = 11
+
+-- the end by why a play stopped
+abbrev pub end_of_stop : Stop → End
+end_of_stop Stop.Setup = ends.BadSetup
+end_of_stop Stop.OpenFault = ends.OpenFault
+end_of_stop (Stop.Damaged area place) = ends.Damaged area place
+end_of_stop Stop.JournalFault = ends.JournalFault
+end_of_stop Stop.WriteFault = ends.WriteFault
+end_of_stop Stop.Memory = ends.Memory
 
 -- ---- the end that is due where nothing fails
 
@@ -88,78 +111,105 @@ IsBadAt held name line = Holds held name (λ text. read_script text ≡ Err (Bad
 abbrev pub IsLonger : Option Held → List ℕ → ℕ → Type 0
 IsLonger held name limit = Holds held name (λ text. limit < length text)
 
--- commands of such a script were played to their end, over the example's configuration
-pub record Plays (is_script : List Command → Type 0) (before after : Option (List ℕ)) : Type 0 where
-  pub commands : List Command
-  pub script : is_script commands
-  pub lines : (old : Whole) → Begins two_workers old → Tells two_workers commands old before after
-
--- the first of them were played
-pub record PlaysFront (is_script : List Command → Type 0) (before after : Option (List ℕ)) : Type 0 where
-  pub commands : List Command
-  pub script : is_script commands
-  pub lines : (old : Whole) → Begins two_workers old → TellsFront two_workers commands old before after
-
--- and a front of their lines' text was taken
-pub record PlaysPartly (is_script : List Command → Type 0) (before after : Option (List ℕ)) : Type 0 where
-  pub commands : List Command
-  pub script : is_script commands
-  pub lines : (old : Whole) → Begins two_workers old → TellsPartly two_workers commands old before after
-
--- nothing was taken yet, or the lines of the first commands were
-abbrev pub BeforeStop : Option Held → List (List ℕ) → Option (List ℕ) → Option (List ℕ) → Type 0
-BeforeStop held words before after = (after ≡ before) ⊎ IsSomeAnd (play_words words) (λ names. PlaysFront (IsScript held names.1) before after)
-
--- nothing, or the first lines, and then the line of this end
-pub record Stops (held : Option Held) (words : List (List ℕ)) (end : End) (before after : Option (List ℕ)) : Type 0 where
-  pub between : Option (List ℕ)
-  pub lines : BeforeStop held words before between
-  pub stop : Takes between after (end_text end)
-
 -- ---- what each end says
 
--- why a run ends before its script is played
+-- why a run ends before its script is played; no opening finds a bad setup or a damaged area yet, and no journal fails
 abbrev pub Cause : Option Held → List (List ℕ) → Type 0 → Type 0 → End → Type 0
 Cause held words world_rose input_rose ends.Done = ⊥
 Cause held words world_rose input_rose ends.BadWords = play_words words ≡ None
 Cause held words world_rose input_rose (ends.BadScript line) = IsSomeAnd (play_words words) (λ names. IsBadAt held names.1 line)
 Cause held words world_rose input_rose ends.ReadFault = input_rose
 Cause held words world_rose input_rose ends.WriteFault = ⊥
+Cause held words world_rose input_rose ends.BadSetup = ⊥
+Cause held words world_rose input_rose (ends.Damaged area place) = ⊥
+Cause held words world_rose input_rose ends.JournalFault = ⊥
 Cause held words world_rose input_rose ends.Memory = ⊤
 Cause held words world_rose input_rose ends.TooLong = IsSomeAnd (play_words words) (λ names. IsLonger held names.1 LIMIT)
 Cause held words world_rose input_rose ends.OpenFault = IsSomeAnd (play_words words) (λ names. world_rose ⊎ IsTrue (is_missed held names.0 names.1))
 
--- why the line of the end is told, and what the sink took before it; no line tells that all was played, or that the sink failed
-abbrev pub BeforeLine : Option Held → List (List ℕ) → Option (List ℕ) → Option (List ℕ) → Type 0 → Type 0 → End → Type 0
-BeforeLine held words before after world_rose input_rose ends.Done = ⊥
-BeforeLine held words before after world_rose input_rose ends.WriteFault = ⊥
-BeforeLine held words before after world_rose input_rose ends.Memory = BeforeStop held words before after
-BeforeLine held words before after world_rose input_rose end = Cause held words world_rose input_rose end × (after ≡ before)
+-- the names of the example's stores and tiers
+abbrev pub media_names : NameLists
+media_names = record { stores = codes "s" ∷ codes "t" ∷ []; tiers = (codes "m1" ∷ codes "d1" ∷ []) ∷ (codes "m2" ∷ []) ∷ [] }
 
--- the end has its cause, and a front of its line was taken
-pub record StopsPartly (held : Option Held) (words : List (List ℕ)) (before after : Option (List ℕ)) (world_rose input_rose : Type 0) : Type 0 where
-  pub end : End
-  pub between : Option (List ℕ)
-  pub lines : BeforeLine held words before between world_rose input_rose end
-  pub bytes : ℕ
-  pub stop : Takes between after (take bytes (end_text end))
+module _ {S R W : Type 0} (o : objects.Ghosts S R W) (r : reads.Ghosts R) (w : writes.Ghosts W) where
+  -- these media tell what such a world holds under the example's names
+  pub record IsHeld (shelf : Option Shelf) (media : Media S) : Type 0 where
+    pub shape : HasShape media_names media
+    pub each : EachNamed (TellsHeld o.told shelf) media_names media
 
--- a front of the lines, or a front of the line of an end that has its cause
-abbrev pub WritesPartly : Option Held → List (List ℕ) → Option (List ℕ) → Option (List ℕ) → Type 0 → Type 0 → Type 0
-WritesPartly held words before after world_rose input_rose = IsSomeAnd (play_words words) (λ names. PlaysPartly (IsScript held names.1) before after) ⊎ StopsPartly held words before after world_rose input_rose
+  -- media that were lent were given back as a play left them, to a world that holds this then; whatever state the play began with, P holds from the core at its beginning to the one at its end
+  pub record GivesBack (shelf : Option Shelf) (P : Whole → Core S R W w → Core S R W w → Type 0) (lent : Media S) : Type 0 where
+    pub back : Media S
+    pub held : IsHeld shelf back
+    pub lines : (V : Whole) → Begins two_workers V → TiersEmpty o lent → Between o r w lent back (P V)
 
--- before the line of the end is told: its cause, and what the sink took
-abbrev pub Attempted : Option Held → List (List ℕ) → Option (List ℕ) → Option (List ℕ) → Type 0 → Type 0 → Type 0 → End → Type 0
-Attempted held words before after world_rose input_rose sink_rose ends.Done = IsSomeAnd (play_words words) (λ names. Plays (IsScript held names.1) before after)
-Attempted held words before after world_rose input_rose sink_rose ends.WriteFault = sink_rose × IsSomeAnd (play_words words) (λ names. PlaysPartly (IsScript held names.1) before after)
-Attempted held words before after world_rose input_rose sink_rose end = BeforeLine held words before after world_rose input_rose end
+-- from here on: what the world holds of stores and tiers before and after
+module _ {S R W : Type 0} (o : objects.Ghosts S R W) (r : reads.Ghosts R) (w : writes.Ghosts W) (old new : Option Shelf) where
+  -- commands of such a script were played over the example's configuration, on media that were lent and given back
+  pub record PlaysSo (P : List Command → Whole → Core S R W w → Core S R W w → Type 0) (is_script : List Command → Type 0) : Type 0 where
+    pub commands : List Command
+    pub script : is_script commands
+    pub lent : Media S
+    pub held : IsHeld o r w old lent
+    pub played : GivesBack o r w new (P commands) lent
 
--- at the end: its cause, and what the sink took
-abbrev pub Ended : Option Held → List (List ℕ) → Option (List ℕ) → Option (List ℕ) → Type 0 → Type 0 → Type 0 → End → Type 0
-Ended held words before after world_rose input_rose sink_rose ends.Done = IsSomeAnd (play_words words) (λ names. Plays (IsScript held names.1) before after)
-Ended held words before after world_rose input_rose sink_rose ends.WriteFault = sink_rose × WritesPartly held words before after world_rose input_rose
-Ended held words before after world_rose input_rose sink_rose ends.Memory = Stops held words ends.Memory before after
-Ended held words before after world_rose input_rose sink_rose end = Cause held words world_rose input_rose end × Takes before after (end_text end)
+  -- they were played to their end
+  abbrev pub Plays : (List Command → Type 0) → Option (List ℕ) → Option (List ℕ) → Type 0
+  Plays is_script before after = PlaysSo (λ commands V first last. Tells o r w two_workers commands V first last before after) is_script
+
+  -- the first of them were played
+  abbrev pub PlaysFront : (List Command → Type 0) → Option (List ℕ) → Option (List ℕ) → Type 0
+  PlaysFront is_script before after = PlaysSo (λ commands V first last. TellsFront o r w two_workers commands V first last before after) is_script
+
+  -- and a front of their lines' text was taken
+  abbrev pub PlaysPartly : (List Command → Type 0) → Option (List ℕ) → Option (List ℕ) → Type 0
+  PlaysPartly is_script before after = PlaysSo (λ commands V first last. TellsPartly o r w two_workers commands V first last before after) is_script
+
+  -- no medium was lent, or they were given back as they were
+  abbrev pub IsUntouched : Type 0
+  IsUntouched = (new ≡ old) ⊎ (media : Media S) × IsHeld o r w old media × IsHeld o r w new media
+
+  -- nothing was done yet, or the lines of the first commands were taken
+  abbrev pub BeforeStop : Option Held → List (List ℕ) → Option (List ℕ) → Option (List ℕ) → Type 0
+  BeforeStop held words before after = ((after ≡ before) × IsUntouched) ⊎ IsSomeAnd (play_words words) (λ names. PlaysFront (IsScript held names.1) before after)
+
+  -- nothing, or the first lines, and then the line of this end
+  pub record Stops (held : Option Held) (words : List (List ℕ)) (end : End) (before after : Option (List ℕ)) : Type 0 where
+    pub between : Option (List ℕ)
+    pub lines : BeforeStop held words before between
+    pub stop : Takes between after (end_text end)
+
+  -- why the line of the end is told, and what the sink took before it, nothing being done; no line tells that all was played, or that the sink failed
+  abbrev pub BeforeLine : Option Held → List (List ℕ) → Option (List ℕ) → Option (List ℕ) → Type 0 → Type 0 → End → Type 0
+  BeforeLine held words before after world_rose input_rose ends.Done = ⊥
+  BeforeLine held words before after world_rose input_rose ends.WriteFault = ⊥
+  BeforeLine held words before after world_rose input_rose ends.Memory = BeforeStop held words before after
+  BeforeLine held words before after world_rose input_rose end = Cause held words world_rose input_rose end × (after ≡ before) × (new ≡ old)
+
+  -- the end has its cause, and a front of its line was taken
+  pub record StopsPartly (held : Option Held) (words : List (List ℕ)) (before after : Option (List ℕ)) (world_rose input_rose : Type 0) : Type 0 where
+    pub end : End
+    pub between : Option (List ℕ)
+    pub lines : BeforeLine held words before between world_rose input_rose end
+    pub bytes : ℕ
+    pub stop : Takes between after (take bytes (end_text end))
+
+  -- a front of the lines, or a front of the line of an end that has its cause
+  abbrev pub WritesPartly : Option Held → List (List ℕ) → Option (List ℕ) → Option (List ℕ) → Type 0 → Type 0 → Type 0
+  WritesPartly held words before after world_rose input_rose = IsSomeAnd (play_words words) (λ names. PlaysPartly (IsScript held names.1) before after) ⊎ StopsPartly held words before after world_rose input_rose
+
+  -- before the line of the end is told: its cause, and what the sink took
+  abbrev pub Attempted : Option Held → List (List ℕ) → Option (List ℕ) → Option (List ℕ) → Type 0 → Type 0 → Type 0 → End → Type 0
+  Attempted held words before after world_rose input_rose sink_rose ends.Done = IsSomeAnd (play_words words) (λ names. Plays (IsScript held names.1) before after)
+  Attempted held words before after world_rose input_rose sink_rose ends.WriteFault = sink_rose × IsSomeAnd (play_words words) (λ names. PlaysPartly (IsScript held names.1) before after)
+  Attempted held words before after world_rose input_rose sink_rose end = BeforeLine held words before after world_rose input_rose end
+
+  -- at the end: its cause, and what the sink took
+  abbrev pub Ended : Option Held → List (List ℕ) → Option (List ℕ) → Option (List ℕ) → Type 0 → Type 0 → Type 0 → End → Type 0
+  Ended held words before after world_rose input_rose sink_rose ends.Done = IsSomeAnd (play_words words) (λ names. Plays (IsScript held names.1) before after)
+  Ended held words before after world_rose input_rose sink_rose ends.WriteFault = sink_rose × WritesPartly held words before after world_rose input_rose
+  Ended held words before after world_rose input_rose sink_rose ends.Memory = Stops held words ends.Memory before after
+  Ended held words before after world_rose input_rose sink_rose end = Cause held words world_rose input_rose end × Takes before after (end_text end) × (new ≡ old)
 
 -- ---- telling the line of an end
 

@@ -1,8 +1,6 @@
 //! The program: a caching file layer that plays scripts.
 #![tactic(auto)]
 
-pub mod master;
-pub mod play;
 mod real;
 pub mod run;
 #[cfg(test)]

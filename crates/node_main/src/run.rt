@@ -1,26 +1,26 @@
 //! The whole program over a world.
 
-ghost use Rattle.std.specs.Prelude.{◌≡◌, ◌≢◌, ◌≤◌, ◌<◌, ◌+◌, ◌⊎◌, ℕ, List, true, IfOk, IfErr, IfSome, IsSomeAnd, IsTrue, OnOk, OnErr, Ok, Err, None, option_map, map, length, take};
+ghost use Rattle.std.specs.Prelude.{◌≡◌, ◌≢◌, ◌≤◌, ◌<◌, ◌+◌, ◌⊎◌, ℕ, List, true, IfOk, IfErr, IfSome, IsSomeAnd, IsTrue, OnOk, OnErr, Ok, Err, None, Some, [], ◌∷◌, option_map, map, length, take};
 ghost use Rattle.std.specs.String.{string_bytes};
 ghost use Rattle.std.specs.List.{list_all};
-ghost use Rattle.fs_model.specs.State.{Whole};
-ghost use Rattle.fs_model.specs.Begins.{Begins};
 ghost use Rattle.fs_model.specs.Examples.{two_workers};
 ghost use Rattle.outside.specs.Causes.{Rose};
-ghost use Rattle.outside.specs.Streams.{Gives, GivesAll, Takes};
 ghost use Rattle.outside.specs.Inputs.{is_missed};
+ghost use Rattle.outside.specs.Shelf.{HasShape, KeepsBut, all_names, name_lists};
+ghost use Rattle.outside.specs.Streams.{Gives, GivesAll, Takes};
 ghost use Rattle.script_text.specs.ScriptText.{read_script};
 ghost use Rattle.script_text.specs.Commands.{is_command};
 ghost use Rattle.script_text.specs.declared.read.ScriptFault.TheVariants.{BadLine};
 ghost use Rattle.node_main.specs.Words.{is_file_word, play_words};
-ghost use Rattle.node_main.specs.Ends.{Attempted, Ended, FinishedAs, Holds, IsBadAt, IsDue, IsLonger, IsScript, Plays, PlaysFront, PlaysPartly, Stops, ToldAs, WritesPartly, end_of_reading, end_text, status_of};
+ghost use Rattle.node_main.specs.Ends.{Attempted, BeforeStop, Ended, FinishedAs, Holds, IsBadAt, IsDue, IsHeld, IsLonger, IsScript, IsUntouched, Plays, PlaysFront, PlaysPartly, Stops, ToldAs, WritesPartly, end_of_reading, end_of_stop, end_text, media_names, status_of};
 
-use crate::play::play;
 use fs_model::items::Items;
 use fs_model::setup::Setup;
 use fs_model::stop::Stop;
+use outside::media::{Media, MediaNames};
 use outside::stream::{Fault, ReadStop, Sink, Source, push_all, read_all};
 use outside::world::{Fail, World};
+use play_run::play::play;
 use script_text::read::{ScriptFault, read_script};
 use script_text::script::Script;
 use std::alloc::{AllocError, Global};
@@ -35,18 +35,24 @@ pub enum End {
     Done,
     /// The words are not those of a command.
     BadWords,
+    /// The configuration and what was recovered don't fit together.
+    BadSetup,
     /// The line of this number, from 1, is the first that is no script line.
     BadScript(u32),
     /// An input failed.
     ReadFault,
     /// The sink failed.
     WriteFault,
+    /// The journal's current area is no area, from this place on.
+    Damaged { area: u32, place: u64 },
     /// Want of memory.
     Memory,
     /// The script has more than 16 MiB.
     TooLong,
-    /// An input could not be opened.
+    /// An input, or a store or tier, could not be opened.
     OpenFault,
+    /// An area failed at the opening.
+    JournalFault,
 }
 
 /// Whether the word can be the name of a file.
@@ -102,6 +108,59 @@ fn example_setup(alloc: Global) -> Result<Setup, AllocError>
     })
 }
 
+/// One name.
+fn one_name(alloc: Global, name: &str) -> Result<Vec<String>, AllocError>
+    ensures { IfOk result (λ names. map string_bytes names.items ≡ name.now ∷ []) }
+{
+    let mut names = Vec::new(alloc);
+    names.push(String::from_str(alloc, name)?)?;
+    Ok(names)
+}
+
+/// Two names.
+fn two_names(alloc: Global, first: &str, second: &str) -> Result<Vec<String>, AllocError>
+    ensures { IfOk result (λ names. map string_bytes names.items ≡ first.now ∷ second.now ∷ []) }
+{
+    let mut names = one_name(alloc, first)?;
+    names.push(String::from_str(alloc, second)?)?;
+    Ok(names)
+}
+
+/// The names of that example's stores and tiers.
+fn example_names(alloc: Global) -> Result<MediaNames, AllocError>
+    ensures { IfOk result (λ names. name_lists names ≡ media_names) }
+{
+    let mut tiers = Vec::new(alloc);
+    tiers.push(two_names(alloc, "m1", "d1")?)?;
+    tiers.push(one_name(alloc, "m2")?)?;
+    Ok(MediaNames {
+        stores: two_names(alloc, "s", "t")?,
+        tiers,
+    })
+}
+
+/// That example: its numbers, and the names of its stores and tiers.
+fn example(alloc: Global) -> Result<(Setup, MediaNames), AllocError>
+    ensures setup { IfOk result (λ found. found.0 ≡ two_workers) }
+    ensures names { IfOk result (λ found. name_lists found.1 ≡ media_names) }
+{
+    Ok((example_setup(alloc)?, example_names(alloc)?))
+}
+
+/// The end of a play that stopped so.
+fn end_of_stop(stop: Stop) -> End
+    ensures { result ≡ end_of_stop stop }
+{
+    match stop {
+        Stop::Setup => End::BadSetup,
+        Stop::OpenFault => End::OpenFault,
+        Stop::Damaged { area, place } => End::Damaged { area, place },
+        Stop::JournalFault => End::JournalFault,
+        Stop::WriteFault => End::WriteFault,
+        Stop::Memory => End::Memory,
+    }
+}
+
 /// Reads the script's input to its end.
 fn read_input<W: World>(alloc: Global, world: &mut W) -> Result<Vec<u8>, ReadStop>
     ensures whole { IfOk result (λ text. GivesAll (W.In.left (W.script_input world.old)) (W.In.left (W.script_input world.new)) text.items) }
@@ -112,6 +171,8 @@ fn read_input<W: World>(alloc: Global, world: &mut W) -> Result<Vec<u8>, ReadSto
     ensures output { W.output world.new ≡ W.output world.old }
     ensures held { W.held world.new ≡ W.held world.old }
     ensures faults { W.faults world.new ≡ W.faults world.old }
+    ensures shelf { W.shelf world.new ≡ W.shelf world.old }
+    ensures lent { W.lent world.new ≡ W.lent world.old }
 {
     read_all(alloc, world.script(), LIMIT)
 }
@@ -129,6 +190,8 @@ fn fetch<W: World>(alloc: Global, config: &str, script: &str, world: &mut W) -> 
     ensures input_later { W.In.faults (W.script_input world.old) ≤ W.In.faults (W.script_input world.new) }
     ensures output { W.output world.new ≡ W.output world.old }
     ensures held { W.held world.new ≡ W.held world.old }
+    ensures shelf { W.shelf world.new ≡ W.shelf world.old }
+    ensures lent { W.lent world.new ≡ W.lent world.old }
 {
     match world.choose(config, script) {
         Ok(()) => {}
@@ -143,41 +206,81 @@ fn fetch<W: World>(alloc: Global, config: &str, script: &str, world: &mut W) -> 
     }
 }
 
-/// Plays the script of a text over a fresh journal.
-fn play_script<W: World>(alloc: Global, script: &Script, world: &mut W) -> End
-    requires { list_all is_command script.now ≡ true }
-    ensures done { result ≡ End.Done → Plays (λ commands. commands ≡ script.now) (W.Out.taken (W.output world.old)) (W.Out.taken (W.output world.new)) }
-    ensures partly { result ≡ End.WriteFault → PlaysPartly (λ commands. commands ≡ script.now) (W.Out.taken (W.output world.old)) (W.Out.taken (W.output world.new)) }
-    ensures memory { result ≡ End.Memory → PlaysFront (λ commands. commands ≡ script.now) (W.Out.taken (W.output world.old)) (W.Out.taken (W.output world.new)) }
+/// Plays a script over media that the world has lent, and gives them back.
+fn play_lent<W: World>(
+    alloc: Global,
+    setup: &Setup,
+    script: &Script,
+    media: Media<W::Store>,
+    world: &mut W,
+) -> End
+    requires setup { setup.now ≡ two_workers }
+    requires commands { list_all is_command script.now ≡ true }
+    requires shape { HasShape media_names media }
+    requires lent { W.lent world.old ≡ Some media_names }
+    ensures done { result ≡ End.Done → GivesBack W.Store.Objects W.Store.Reader.ObjectRead W.Store.Writer.ObjectWrite (W.shelf world.new) (λ V first last. Tells W.Store.Objects W.Store.Reader.ObjectRead W.Store.Writer.ObjectWrite two_workers script.now V first last (W.Out.taken (W.output world.old)) (W.Out.taken (W.output world.new))) media }
+    ensures partly { result ≡ End.WriteFault → GivesBack W.Store.Objects W.Store.Reader.ObjectRead W.Store.Writer.ObjectWrite (W.shelf world.new) (λ V first last. TellsPartly W.Store.Objects W.Store.Reader.ObjectRead W.Store.Writer.ObjectWrite two_workers script.now V first last (W.Out.taken (W.output world.old)) (W.Out.taken (W.output world.new))) media }
+    ensures memory { result ≡ End.Memory → ((W.Out.taken (W.output world.new) ≡ W.Out.taken (W.output world.old)) × IsHeld W.Store.Objects W.Store.Reader.ObjectRead W.Store.Writer.ObjectWrite (W.shelf world.new) media) ⊎ GivesBack W.Store.Objects W.Store.Reader.ObjectRead W.Store.Writer.ObjectWrite (W.shelf world.new) (λ V first last. TellsFront W.Store.Objects W.Store.Reader.ObjectRead W.Store.Writer.ObjectWrite two_workers script.now V first last (W.Out.taken (W.output world.old)) (W.Out.taken (W.output world.new))) media }
     ensures write { result ≡ End.WriteFault → Rose (W.Out.faults (W.output world.old)) (W.Out.faults (W.output world.new)) }
     ensures ends { (result ≡ End.Done) ⊎ (result ≡ End.WriteFault) ⊎ (result ≡ End.Memory) }
     ensures later { W.Out.faults (W.output world.old) ≤ W.Out.faults (W.output world.new) }
     ensures input { W.script_input world.new ≡ W.script_input world.old }
     ensures held { W.held world.new ≡ W.held world.old }
     ensures faults { W.faults world.new ≡ W.faults world.old }
+    ensures others { KeepsBut (all_names media_names) (W.shelf world.old) (W.shelf world.new) }
+    ensures idle { W.lent world.new ≡ None }
 {
-    let Ok(setup) = example_setup(alloc) else {
+    let (played, back) = play(alloc, setup, script, media, world.out());
+    world.give_back(back);
+    match played {
+        Ok(()) => End::Done,
+        Err(stop) => end_of_stop(stop),
+    }
+}
+
+/// Plays a script over fresh areas and the media of the example, which the world lends meanwhile.
+fn play_script<W: World>(alloc: Global, script: &Script, world: &mut W) -> End
+    requires commands { list_all is_command script.now ≡ true }
+    requires idle { W.lent world.old ≡ None }
+    ensures done { result ≡ End.Done → Plays W.Store.Objects W.Store.Reader.ObjectRead W.Store.Writer.ObjectWrite (W.shelf world.old) (W.shelf world.new) (λ commands. commands ≡ script.now) (W.Out.taken (W.output world.old)) (W.Out.taken (W.output world.new)) }
+    ensures partly { result ≡ End.WriteFault → PlaysPartly W.Store.Objects W.Store.Reader.ObjectRead W.Store.Writer.ObjectWrite (W.shelf world.old) (W.shelf world.new) (λ commands. commands ≡ script.now) (W.Out.taken (W.output world.old)) (W.Out.taken (W.output world.new)) }
+    ensures memory { result ≡ End.Memory → ((W.Out.taken (W.output world.new) ≡ W.Out.taken (W.output world.old)) × IsUntouched W.Store.Objects W.Store.Reader.ObjectRead W.Store.Writer.ObjectWrite (W.shelf world.old) (W.shelf world.new)) ⊎ PlaysFront W.Store.Objects W.Store.Reader.ObjectRead W.Store.Writer.ObjectWrite (W.shelf world.old) (W.shelf world.new) (λ commands. commands ≡ script.now) (W.Out.taken (W.output world.old)) (W.Out.taken (W.output world.new)) }
+    ensures open { result ≡ End.OpenFault → Rose (W.faults world.old) (W.faults world.new) × (W.output world.new ≡ W.output world.old) × (W.shelf world.new ≡ W.shelf world.old) }
+    ensures write { result ≡ End.WriteFault → Rose (W.Out.faults (W.output world.old)) (W.Out.faults (W.output world.new)) }
+    ensures ends { (result ≡ End.Done) ⊎ (result ≡ End.WriteFault) ⊎ (result ≡ End.OpenFault) ⊎ (result ≡ End.Memory) }
+    ensures later { W.Out.faults (W.output world.old) ≤ W.Out.faults (W.output world.new) }
+    ensures input { W.script_input world.new ≡ W.script_input world.old }
+    ensures held { W.held world.new ≡ W.held world.old }
+    ensures faults { W.faults world.old ≤ W.faults world.new }
+    ensures others { KeepsBut (all_names media_names) (W.shelf world.old) (W.shelf world.new) }
+    ensures idle { W.lent world.new ≡ None }
+{
+    let Ok((setup, names)) = example(alloc) else {
         return End::Memory;
     };
-    match play(alloc, &setup, script, world.out()) {
-        Ok(()) => End::Done,
-        Err(Stop::WriteFault) => End::WriteFault,
-        Err(_) => End::Memory,
+    match world.assemble(&names) {
+        Ok(media) => play_lent(alloc, &setup, script, media, world),
+        Err(Fail::Failed) => End::OpenFault,
+        Err(Fail::Memory) => End::Memory,
     }
 }
 
 /// Reads the script of a text, and plays it.
 fn play_text<W: World>(alloc: Global, text: &[u8], world: &mut W) -> End
-    ensures done { result ≡ End.Done → Plays (λ commands. read_script text.now ≡ Ok commands) (W.Out.taken (W.output world.old)) (W.Out.taken (W.output world.new)) }
-    ensures partly { result ≡ End.WriteFault → PlaysPartly (λ commands. read_script text.now ≡ Ok commands) (W.Out.taken (W.output world.old)) (W.Out.taken (W.output world.new)) }
-    ensures memory { result ≡ End.Memory → (W.Out.taken (W.output world.new) ≡ W.Out.taken (W.output world.old)) ⊎ PlaysFront (λ commands. read_script text.now ≡ Ok commands) (W.Out.taken (W.output world.old)) (W.Out.taken (W.output world.new)) }
-    ensures bad { (line : ℕ) → result ≡ End.BadScript line → (read_script text.now ≡ Err (BadLine line)) × (W.output world.new ≡ W.output world.old) }
+    requires { W.lent world.old ≡ None }
+    ensures done { result ≡ End.Done → Plays W.Store.Objects W.Store.Reader.ObjectRead W.Store.Writer.ObjectWrite (W.shelf world.old) (W.shelf world.new) (λ commands. read_script text.now ≡ Ok commands) (W.Out.taken (W.output world.old)) (W.Out.taken (W.output world.new)) }
+    ensures partly { result ≡ End.WriteFault → PlaysPartly W.Store.Objects W.Store.Reader.ObjectRead W.Store.Writer.ObjectWrite (W.shelf world.old) (W.shelf world.new) (λ commands. read_script text.now ≡ Ok commands) (W.Out.taken (W.output world.old)) (W.Out.taken (W.output world.new)) }
+    ensures memory { result ≡ End.Memory → ((W.Out.taken (W.output world.new) ≡ W.Out.taken (W.output world.old)) × IsUntouched W.Store.Objects W.Store.Reader.ObjectRead W.Store.Writer.ObjectWrite (W.shelf world.old) (W.shelf world.new)) ⊎ PlaysFront W.Store.Objects W.Store.Reader.ObjectRead W.Store.Writer.ObjectWrite (W.shelf world.old) (W.shelf world.new) (λ commands. read_script text.now ≡ Ok commands) (W.Out.taken (W.output world.old)) (W.Out.taken (W.output world.new)) }
+    ensures open { result ≡ End.OpenFault → Rose (W.faults world.old) (W.faults world.new) × (W.output world.new ≡ W.output world.old) × (W.shelf world.new ≡ W.shelf world.old) }
+    ensures bad { (line : ℕ) → result ≡ End.BadScript line → (read_script text.now ≡ Err (BadLine line)) × (W.output world.new ≡ W.output world.old) × (W.shelf world.new ≡ W.shelf world.old) }
     ensures write { result ≡ End.WriteFault → Rose (W.Out.faults (W.output world.old)) (W.Out.faults (W.output world.new)) }
-    ensures due { (result ≡ end_of_reading (read_script text.now)) ⊎ (result ≡ End.Memory) ⊎ (result ≡ End.WriteFault) }
+    ensures due { (result ≡ end_of_reading (read_script text.now)) ⊎ (result ≡ End.Memory) ⊎ (result ≡ End.WriteFault) ⊎ (result ≡ End.OpenFault) }
     ensures later { W.Out.faults (W.output world.old) ≤ W.Out.faults (W.output world.new) }
     ensures input { W.script_input world.new ≡ W.script_input world.old }
     ensures held { W.held world.new ≡ W.held world.old }
-    ensures faults { W.faults world.new ≡ W.faults world.old }
+    ensures faults { W.faults world.old ≤ W.faults world.new }
+    ensures others { KeepsBut (all_names media_names) (W.shelf world.old) (W.shelf world.new) }
+    ensures idle { W.lent world.new ≡ None }
 {
     match read_script(alloc, text) {
         Ok(script) => play_script(alloc, &script, world),
@@ -188,13 +291,16 @@ fn play_text<W: World>(alloc: Global, text: &[u8], world: &mut W) -> End
 
 /// Does what the words ask for. The line of an end that isn't `Done` or `WriteFault` is not told yet.
 fn attempt<W: World>(alloc: Global, words: &[String], world: &mut W) -> End
-    ensures ended { Attempted (W.held world.old) (map string_bytes words.now) (W.Out.taken (W.output world.old)) (W.Out.taken (W.output world.new)) (Rose (W.faults world.old) (W.faults world.new)) (Rose (W.In.faults (W.script_input world.old)) (W.In.faults (W.script_input world.new))) (Rose (W.Out.faults (W.output world.old)) (W.Out.faults (W.output world.new))) result }
+    requires { W.lent world.old ≡ None }
+    ensures ended { Attempted W.Store.Objects W.Store.Reader.ObjectRead W.Store.Writer.ObjectWrite (W.shelf world.old) (W.shelf world.new) (W.held world.old) (map string_bytes words.now) (W.Out.taken (W.output world.old)) (W.Out.taken (W.output world.new)) (Rose (W.faults world.old) (W.faults world.new)) (Rose (W.In.faults (W.script_input world.old)) (W.In.faults (W.script_input world.new))) (Rose (W.Out.faults (W.output world.old)) (W.Out.faults (W.output world.new))) result }
     ensures words { play_words (map string_bytes words.now) ≡ None → result ≡ End.BadWords }
     ensures due { IfSome (W.held world.old) (λ held. IsDue held (map string_bytes words.now) (Rose (W.faults world.old) (W.faults world.new)) (Rose (W.In.faults (W.script_input world.old)) (W.In.faults (W.script_input world.new))) (Rose (W.Out.faults (W.output world.old)) (W.Out.faults (W.output world.new))) result) }
     ensures world_later { W.faults world.old ≤ W.faults world.new }
     ensures input_later { W.In.faults (W.script_input world.old) ≤ W.In.faults (W.script_input world.new) }
     ensures sink_later { W.Out.faults (W.output world.old) ≤ W.Out.faults (W.output world.new) }
     ensures held { W.held world.new ≡ W.held world.old }
+    ensures others { KeepsBut (all_names media_names) (W.shelf world.old) (W.shelf world.new) }
+    ensures idle { W.lent world.new ≡ None }
 {
     let Some((config, script)) = play_words(words) else {
         return End::BadWords;
@@ -205,6 +311,28 @@ fn attempt<W: World>(alloc: Global, words: &[String], world: &mut W) -> End
     }
 }
 
+/// The line that tells the first line that is no script line.
+fn script_line(alloc: Global, line: u32) -> Result<Vec<u8>, AllocError>
+    ensures { IfOk result (λ text. text.items ≡ end_text (End.BadScript line)) }
+{
+    let mut text = Vec::from_slice(alloc, b"stopped 4 BadScript ")?;
+    text.extend_from_slice(line.to_string(alloc)?.as_bytes())?;
+    text.push(b'\n')?;
+    Ok(text)
+}
+
+/// The line that tells where an area is damaged.
+fn damaged_line(alloc: Global, area: u32, place: u64) -> Result<Vec<u8>, AllocError>
+    ensures { IfOk result (λ text. text.items ≡ end_text (End.Damaged area place)) }
+{
+    let mut text = Vec::from_slice(alloc, b"stopped 7 Damaged ")?;
+    text.extend_from_slice(area.to_string(alloc)?.as_bytes())?;
+    text.push(b' ')?;
+    text.extend_from_slice(place.to_string(alloc)?.as_bytes())?;
+    text.push(b'\n')?;
+    Ok(text)
+}
+
 /// The line of an end.
 fn end_line(alloc: Global, end: End) -> Result<Vec<u8>, AllocError>
     ensures { IfOk result (λ line. line.items ≡ end_text end) }
@@ -212,16 +340,14 @@ fn end_line(alloc: Global, end: End) -> Result<Vec<u8>, AllocError>
     match end {
         End::Done | End::WriteFault => Ok(Vec::new(alloc)),
         End::BadWords => Vec::from_slice(alloc, b"stopped 2 BadWords\n"),
-        End::BadScript(line) => {
-            let mut text = Vec::from_slice(alloc, b"stopped 4 BadScript ")?;
-            text.extend_from_slice(line.to_string(alloc)?.as_bytes())?;
-            text.push(b'\n')?;
-            Ok(text)
-        }
+        End::BadSetup => Vec::from_slice(alloc, b"stopped 3 BadConfig store\n"),
+        End::BadScript(line) => script_line(alloc, line),
         End::ReadFault => Vec::from_slice(alloc, b"stopped 5 ReadFault\n"),
+        End::Damaged { area, place } => damaged_line(alloc, area, place),
         End::Memory => Vec::from_slice(alloc, b"stopped 8 Memory\n"),
         End::TooLong => Vec::from_slice(alloc, b"stopped 9 TooLong\n"),
         End::OpenFault => Vec::from_slice(alloc, b"stopped 10 OpenFault\n"),
+        End::JournalFault => Vec::from_slice(alloc, b"stopped 11 JournalFault\n"),
     }
 }
 
@@ -232,12 +358,15 @@ fn status_of(end: End) -> u8
     match end {
         End::Done => 0,
         End::BadWords => 2,
+        End::BadSetup => 3,
         End::BadScript(_) => 4,
         End::ReadFault => 5,
         End::WriteFault => 6,
+        End::Damaged { .. } => 7,
         End::Memory => 8,
         End::TooLong => 9,
         End::OpenFault => 10,
+        End::JournalFault => 11,
     }
 }
 
@@ -250,6 +379,8 @@ fn give<W: World>(text: &[u8], world: &mut W) -> Result<(), Fault>
     ensures held { W.held world.new ≡ W.held world.old }
     ensures faults { W.faults world.new ≡ W.faults world.old }
     ensures later { W.Out.faults (W.output world.old) ≤ W.Out.faults (W.output world.new) }
+    ensures shelf { W.shelf world.new ≡ W.shelf world.old }
+    ensures lent { W.lent world.new ≡ W.lent world.old }
 {
     push_all(world.out(), text)
 }
@@ -262,6 +393,8 @@ fn tell_end<W: World>(text: &[u8], end: End, world: &mut W) -> End
     ensures held { W.held world.new ≡ W.held world.old }
     ensures faults { W.faults world.new ≡ W.faults world.old }
     ensures later { W.Out.faults (W.output world.old) ≤ W.Out.faults (W.output world.new) }
+    ensures shelf { W.shelf world.new ≡ W.shelf world.old }
+    ensures lent { W.lent world.new ≡ W.lent world.old }
 {
     match give(text, world) {
         Ok(()) => end,
@@ -277,6 +410,8 @@ fn finish<W: World>(alloc: Global, end: End, world: &mut W) -> End
     ensures held { W.held world.new ≡ W.held world.old }
     ensures faults { W.faults world.new ≡ W.faults world.old }
     ensures later { W.Out.faults (W.output world.old) ≤ W.Out.faults (W.output world.new) }
+    ensures shelf { W.shelf world.new ≡ W.shelf world.old }
+    ensures lent { W.lent world.new ≡ W.lent world.old }
 {
     match end_line(alloc, end) {
         Ok(text) => tell_end(&text, end, world),
@@ -286,10 +421,13 @@ fn finish<W: World>(alloc: Global, end: End, world: &mut W) -> End
 
 /// Does what the words ask for, and tells the line of its end.
 fn run_to_end<W: World>(alloc: Global, words: &[String], world: &mut W) -> End
-    ensures ended { Ended (W.held world.old) (map string_bytes words.now) (W.Out.taken (W.output world.old)) (W.Out.taken (W.output world.new)) (Rose (W.faults world.old) (W.faults world.new)) (Rose (W.In.faults (W.script_input world.old)) (W.In.faults (W.script_input world.new))) (Rose (W.Out.faults (W.output world.old)) (W.Out.faults (W.output world.new))) result }
+    requires { W.lent world.old ≡ None }
+    ensures ended { Ended W.Store.Objects W.Store.Reader.ObjectRead W.Store.Writer.ObjectWrite (W.shelf world.old) (W.shelf world.new) (W.held world.old) (map string_bytes words.now) (W.Out.taken (W.output world.old)) (W.Out.taken (W.output world.new)) (Rose (W.faults world.old) (W.faults world.new)) (Rose (W.In.faults (W.script_input world.old)) (W.In.faults (W.script_input world.new))) (Rose (W.Out.faults (W.output world.old)) (W.Out.faults (W.output world.new))) result }
     ensures words { play_words (map string_bytes words.now) ≡ None → (result ≡ End.BadWords) ⊎ (result ≡ End.WriteFault) ⊎ (result ≡ End.Memory) }
     ensures due { IfSome (W.held world.old) (λ held. IsDue held (map string_bytes words.now) (Rose (W.faults world.old) (W.faults world.new)) (Rose (W.In.faults (W.script_input world.old)) (W.In.faults (W.script_input world.new))) (Rose (W.Out.faults (W.output world.old)) (W.Out.faults (W.output world.new))) result) }
     ensures held { W.held world.new ≡ W.held world.old }
+    ensures others { KeepsBut (all_names media_names) (W.shelf world.old) (W.shelf world.new) }
+    ensures idle { W.lent world.new ≡ None }
 {
     match attempt(alloc, words, world) {
         End::Done => End::Done,
@@ -315,29 +453,35 @@ fn run_to_end<W: World>(alloc: Global, words: &[String], world: &mut W) -> End
 /// Each "exactly where" yields to a fault or want of memory that comes before. The inputs stay as the world holds
 /// them under their names.
 pub fn run<W: World>(alloc: Global, words: &[String], world: &mut W) -> u8
+    requires { W.lent world.old ≡ None }
+
     // The script that the world holds under its name was played, and its lines are all that was written.
-    ensures done { result ≡ 0 → IsSomeAnd (play_words (map string_bytes words.now)) (λ names. Plays (IsScript (W.held world.old) names.1) (W.Out.taken (W.output world.old)) (W.Out.taken (W.output world.new))) }
+    ensures done { result ≡ 0 → IsSomeAnd (play_words (map string_bytes words.now)) (λ names. Plays W.Store.Objects W.Store.Reader.ObjectRead W.Store.Writer.ObjectWrite (W.shelf world.old) (W.shelf world.new) (IsScript (W.held world.old) names.1) (W.Out.taken (W.output world.old)) (W.Out.taken (W.output world.new))) }
 
     // Words of no form.
-    ensures words { result ≡ 2 → (play_words (map string_bytes words.now) ≡ None) × Takes (W.Out.taken (W.output world.old)) (W.Out.taken (W.output world.new)) (end_text End.BadWords) }
+    ensures words { result ≡ 2 → (play_words (map string_bytes words.now) ≡ None) × Takes (W.Out.taken (W.output world.old)) (W.Out.taken (W.output world.new)) (end_text End.BadWords) × (W.shelf world.new ≡ W.shelf world.old) }
     ensures words_too { play_words (map string_bytes words.now) ≡ None → (result ≡ 2) ⊎ (result ≡ 6) ⊎ (result ≡ 8) }
 
     // The first line that is none of a script.
-    ensures bad { result ≡ 4 → (line : ℕ) × IsSomeAnd (play_words (map string_bytes words.now)) (λ names. IsBadAt (W.held world.old) names.1 line) × Takes (W.Out.taken (W.output world.old)) (W.Out.taken (W.output world.new)) (end_text (End.BadScript line)) }
+    ensures bad { result ≡ 4 → (line : ℕ) × IsSomeAnd (play_words (map string_bytes words.now)) (λ names. IsBadAt (W.held world.old) names.1 line) × Takes (W.Out.taken (W.output world.old)) (W.Out.taken (W.output world.new)) (end_text (End.BadScript line)) × (W.shelf world.new ≡ W.shelf world.old) }
 
     // A fault comes only where its count rose, or where a name isn't held.
-    ensures read { result ≡ 5 → Rose (W.In.faults (W.script_input world.old)) (W.In.faults (W.script_input world.new)) × Takes (W.Out.taken (W.output world.old)) (W.Out.taken (W.output world.new)) (end_text End.ReadFault) }
+    ensures read { result ≡ 5 → Rose (W.In.faults (W.script_input world.old)) (W.In.faults (W.script_input world.new)) × Takes (W.Out.taken (W.output world.old)) (W.Out.taken (W.output world.new)) (end_text End.ReadFault) × (W.shelf world.new ≡ W.shelf world.old) }
     // The sink failed, and took a front of the played lines, or a front of the line of an end that has its cause.
-    ensures write { result ≡ 6 → Rose (W.Out.faults (W.output world.old)) (W.Out.faults (W.output world.new)) × WritesPartly (W.held world.old) (map string_bytes words.now) (W.Out.taken (W.output world.old)) (W.Out.taken (W.output world.new)) (Rose (W.faults world.old) (W.faults world.new)) (Rose (W.In.faults (W.script_input world.old)) (W.In.faults (W.script_input world.new))) }
-    ensures open { result ≡ 10 → IsSomeAnd (play_words (map string_bytes words.now)) (λ names. Rose (W.faults world.old) (W.faults world.new) ⊎ IsTrue (is_missed (W.held world.old) names.0 names.1)) × Takes (W.Out.taken (W.output world.old)) (W.Out.taken (W.output world.new)) (end_text End.OpenFault) }
+    ensures write { result ≡ 6 → Rose (W.Out.faults (W.output world.old)) (W.Out.faults (W.output world.new)) × WritesPartly W.Store.Objects W.Store.Reader.ObjectRead W.Store.Writer.ObjectWrite (W.shelf world.old) (W.shelf world.new) (W.held world.old) (map string_bytes words.now) (W.Out.taken (W.output world.old)) (W.Out.taken (W.output world.new)) (Rose (W.faults world.old) (W.faults world.new)) (Rose (W.In.faults (W.script_input world.old)) (W.In.faults (W.script_input world.new))) }
+    ensures open { result ≡ 10 → IsSomeAnd (play_words (map string_bytes words.now)) (λ names. Rose (W.faults world.old) (W.faults world.new) ⊎ IsTrue (is_missed (W.held world.old) names.0 names.1)) × Takes (W.Out.taken (W.output world.old)) (W.Out.taken (W.output world.new)) (end_text End.OpenFault) × (W.shelf world.new ≡ W.shelf world.old) }
 
-    ensures memory { result ≡ 8 → Stops (W.held world.old) (map string_bytes words.now) End.Memory (W.Out.taken (W.output world.old)) (W.Out.taken (W.output world.new)) }
-    ensures long { result ≡ 9 → IsSomeAnd (play_words (map string_bytes words.now)) (λ names. IsLonger (W.held world.old) names.1 LIMIT) × Takes (W.Out.taken (W.output world.old)) (W.Out.taken (W.output world.new)) (end_text End.TooLong) }
+    ensures memory { result ≡ 8 → Stops W.Store.Objects W.Store.Reader.ObjectRead W.Store.Writer.ObjectWrite (W.shelf world.old) (W.shelf world.new) (W.held world.old) (map string_bytes words.now) End.Memory (W.Out.taken (W.output world.old)) (W.Out.taken (W.output world.new)) }
+    ensures long { result ≡ 9 → IsSomeAnd (play_words (map string_bytes words.now)) (λ names. IsLonger (W.held world.old) names.1 LIMIT) × Takes (W.Out.taken (W.output world.old)) (W.Out.taken (W.output world.new)) (end_text End.TooLong) × (W.shelf world.new ≡ W.shelf world.old) }
 
     // Where the world tells, the end is the one that is due by what it holds, or want of memory, or a fault whose count rose.
     ensures due { IfSome (W.held world.old) (λ held. (end : End) × (result ≡ status_of end) × IsDue held (map string_bytes words.now) (Rose (W.faults world.old) (W.faults world.new)) (Rose (W.In.faults (W.script_input world.old)) (W.In.faults (W.script_input world.new))) (Rose (W.Out.faults (W.output world.old)) (W.Out.faults (W.output world.new))) end) }
 
     ensures held { W.held world.new ≡ W.held world.old }
+
+    // What the world holds under other names than the example's stays, and nothing is lent.
+    ensures others { KeepsBut (all_names media_names) (W.shelf world.old) (W.shelf world.new) }
+    ensures idle { W.lent world.new ≡ None }
 {
     status_of(run_to_end(alloc, words, world))
 }

@@ -1,17 +1,14 @@
-ghost use Rattle.std.specs.Prelude.{◌≡◌, true};
-ghost use Rattle.fs_model.specs.Spelled.{is_setup};
+ghost use Rattle.std.specs.Prelude.{◌≡◌, IfOk, None};
 
-use crate::play::play;
 use crate::run::run;
-use fs_model::items::Items;
-use fs_model::setup::Setup;
-use outside::memory::{Failing, MemSink, MemWorld};
-use script_text::read::read_script;
+use outside::memory::{Failing, MemWorld};
 use std::alloc::Global;
 use std::test::Fail;
 
 /// A world that holds an empty configuration `c` and this script `s`.
-fn world_of(alloc: Global, script: &[u8]) -> Result<MemWorld, Fail> {
+fn world_of(alloc: Global, script: &[u8]) -> Result<MemWorld, Fail>
+    ensures { IfOk result (λ world. world.shelf.lent ≡ None) }
+{
     let mut world = MemWorld::new(alloc);
     world.hold("c", b"")?;
     world.hold("s", script)?;
@@ -138,7 +135,9 @@ fn scripts_have_a_greatest_length(rt: HostRuntime) -> Result<(), Fail> {
 }
 
 /// The status of a play of `1 ls /` twice over this world, with what was written.
-fn played_in(alloc: Global, mut world: MemWorld) -> Result<(u8, Vec<u8>), Fail> {
+fn played_in(alloc: Global, mut world: MemWorld) -> Result<(u8, Vec<u8>), Fail>
+    requires { world.shelf.lent ≡ None }
+{
     let words = words_of(alloc, "play c s")?;
     let status = run(alloc, &words, &mut world);
     let written = Vec::from_slice(alloc, &world.out.bytes)?;
@@ -175,32 +174,5 @@ fn an_input_that_is_not_there_ends_the_run(rt: HostRuntime) -> Result<(), Fail> 
     let (status, written) = played_in(alloc, world)?;
     assert_eq!(rt; status, 10);
     assert_eq!(rt; written.as_slice(), b"stopped 10 OpenFault\n".as_slice());
-    Ok(())
-}
-
-/// A setup whose areas have 64 bytes.
-fn small_area(alloc: Global) -> Setup
-    ensures { is_setup result ≡ true }
-{
-    Setup {
-        block: 4,
-        patience: 3,
-        area: 64,
-        root: Items::from_vec(Vec::new(alloc)),
-        stores: 1,
-        tiers: Items::from_vec(Vec::new(alloc)),
-    }
-}
-
-#[test]
-fn a_full_area_refuses_changes(rt: HostRuntime) -> Result<(), Fail> {
-    let alloc = rt.alloc();
-    let script = read_script(alloc, b"1 mkdir /a\n1 ls /\n")?;
-    let mut sink = MemSink::new(alloc);
-    assert_eq!(rt; play(alloc, &small_area(alloc), &script, &mut sink), Ok(()));
-    assert_eq!(rt;
-        sink.bytes.as_slice(),
-        b"1 mkdir /a -> refused 22 Limit Area\n1 ls / -> names\n".as_slice()
-    );
     Ok(())
 }

@@ -1,6 +1,6 @@
 //! Plays a script.
 
-ghost use Rattle.std.specs.Prelude.{◌≡◌, ◌≤◌, ◌⊎◌, ℕ, [], true, take, length, map, OnOk, OnErr, IfOk, IfErr, Ok, Err};
+ghost use Rattle.std.specs.Prelude.{◌≡◌, ◌≤◌, ◌⊎◌, ℕ, [], true, take, length, map, OnOk, OnErr, IfOk, IfErr, Err};
 ghost use Rattle.std.specs.List.{list_all};
 ghost use Rattle.fs_model.specs.declared.setup.Setup.{Setup};
 ghost use Rattle.fs_model.specs.declared.stop.Stop.{Stop};
@@ -166,7 +166,7 @@ pub fn play<O: Objects, S: Sink>(
     // Over tiers that tell and hold no object, whatever state the play began with, the sink took the lines of a run of
     // the machine, in which each rise is one of real counts; the media given back are those of a core that stands for
     // the state after it.
-    ensures ok { result.0 ≡ Ok () → (V : Whole) → Begins setup.now V → TiersEmpty O.Objects media → Between O.Objects O.Reader.ObjectRead O.Writer.ObjectWrite media result.1 (λ first last. Tells O.Objects O.Reader.ObjectRead O.Writer.ObjectWrite setup.now script.now V first last (S.taken sink.old) (S.taken sink.new)) }
+    ensures ok { OnOk result.0 ((V : Whole) → Begins setup.now V → TiersEmpty O.Objects media → Between O.Objects O.Reader.ObjectRead O.Writer.ObjectWrite media result.1 (λ first last. Tells O.Objects O.Reader.ObjectRead O.Writer.ObjectWrite setup.now script.now V first last (S.taken sink.old) (S.taken sink.new))) }
 
     // At a fault of the sink it took a front of such a text, and its count rose.
     ensures write { result.0 ≡ Err Stop.WriteFault → (V : Whole) → Begins setup.now V → TiersEmpty O.Objects media → Between O.Objects O.Reader.ObjectRead O.Writer.ObjectWrite media result.1 (λ first last. TellsPartly O.Objects O.Reader.ObjectRead O.Writer.ObjectWrite setup.now script.now V first last (S.taken sink.old) (S.taken sink.new)) }
