@@ -1,0 +1,168 @@
+-- A play that has come some way.
+use Rattle.std.proofs.Common.{◌≡◌, ℕ, zero, suc, Bool, true, ◌+◌, ◌≤◌, ◌<◌, List, [], ◌∷◌, ◌++◌, length, take, drop, get_or, Option, Result, Ok, Err, refl, sym, ap, ◌∙◌, subst, append_assoc, arith}
+use Rattle.std.proofs.lemmas.Bool.{and_parts}
+use Rattle.std.proofs.lemmas.List.{append-nil, take_more}
+use Rattle.std.specs.List.{list_all}
+use Rattle.std.specs.Result.{OnOk}
+use Rattle.fs_model.specs.declared.setup.Setup.{Setup}
+use Rattle.fs_model.specs.declared.reply.Line.{Line}
+use Rattle.fs_model.specs.State.{Whole}
+use Rattle.fs_model.specs.Step.{WholeStep, Observation, Run}
+use Rattle.outside.specs.Streams.{Takes}
+use Rattle.outside.specs.declared.objects.Objects as objects
+use Rattle.outside.specs.declared.objects.ObjectRead as reads
+use Rattle.outside.specs.declared.objects.ObjectWrite as writes
+use Rattle.outside.proofs.Known.{Takes-nil, Takes-trans}
+use Rattle.script_text.specs.declared.script.Command.{Command}
+use Rattle.script_text.specs.LineText.{line_text, lines_text}
+use Rattle.cluster_core.specs.Goes.{Goes, Rises}
+use Rattle.cluster_core.specs.Stands.{Stands}
+use Rattle.cluster_core.specs.declared.cluster.Core.{Core}
+use Rattle.play_run.specs.Play.{Says, Played, Acts, RiseAlong, Ran, Tells, TellsFront, TellsPartly}
+
+-- ---- lists
+
+played_more : (cs : List Command) (ls : List Line) (c : Command) (l : Line) → Says c l → Played cs ls → Played (cs ++ c ∷ []) (ls ++ l ∷ [])
+played_more [] [] c l s h = (s, tt)
+played_more (d ∷ cs) (m ∷ ls) c l s h = (h.0, played_more cs ls c l s h.1)
+played_more [] (m ∷ ls) c l s h = absurd h
+played_more (d ∷ cs) [] c l s h = absurd h
+
+run_more : (U : Setup) (ls : List Line) (seen : List Observation) (l : Line) (x : Observation) (V W Z : Whole) → Run U V ls W seen → WholeStep U W l Z x → Run U V (ls ++ l ∷ []) Z (seen ++ x ∷ [])
+run_more U [] [] l x V W Z r h = (Z, subst (λ (y : Whole). WholeStep U y l Z x) r h, refl)
+run_more U (m ∷ ls) (y ∷ ys) l x V W Z r h = (r.0, r.1, run_more U ls ys l x r.0 W Z r.2 h)
+run_more U [] (y ∷ ys) l x V W Z r h = absurd r
+run_more U (m ∷ ls) [] l x V W Z r h = absurd r
+
+lines_more : (ls : List Line) (l : Line) → lines_text (ls ++ l ∷ []) ≡ lines_text ls ++ line_text l
+lines_more [] l = append-nil (line_text l)
+lines_more (m ∷ ls) l = ap (λ (xs : List ℕ). line_text m ++ xs) (lines_more ls l) ∙ sym (append_assoc (line_text m) (lines_text ls) (line_text l))
+
+-- all of a list is taken, and what is behind it is dropped
+take_whole : (ls : List Line) → take (length ls) ls ≡ ls
+take_whole [] = refl
+take_whole (m ∷ ls) = ap (λ xs. m ∷ xs) (take_whole ls)
+
+take_front : (ls more : List Line) → take (length ls) (ls ++ more) ≡ ls
+take_front [] more = refl
+take_front (m ∷ ls) more = ap (λ xs. m ∷ xs) (take_front ls more)
+
+drop_front : (ls more : List Line) → drop (length ls) (ls ++ more) ≡ more
+drop_front [] more = refl
+drop_front (m ∷ ls) more = drop_front ls more
+
+one_longer : (ls : List Line) (l : Line) → length (ls ++ l ∷ []) ≤ length ls + 1
+one_longer [] l = omega arith
+one_longer (m ∷ ls) l = let h = one_longer ls l in omega (arith, h)
+
+-- one command more of a list
+pub next_command : (cs : List Command) (i : ℕ) (c : Command) → i < length cs → c ≡ get_or cs i c → take i cs ++ c ∷ [] ≡ take (i + 1) cs
+next_command cs i c lt at = ap (λ (x : Command). take i cs ++ x ∷ []) at ∙ sym (take_more cs i c lt)
+
+-- ---- runs
+
+module _ {S R W : Type 0} (o : objects.Ghosts S R W) (r : reads.Ghosts R) (w : writes.Ghosts W) (U : Setup) where
+  rise_more : (ls : List Line) (seen : List Observation) (l : Line) (x : Observation) (old mid new : Core S R W w) → RiseAlong o r w old ls seen mid → Rises o r w mid new l.actor x.rise → RiseAlong o r w old (ls ++ l ∷ []) (seen ++ x ∷ []) new
+  rise_more [] [] l x old mid new along h = (new, subst (λ (y : Core S R W w). Rises o r w y new l.actor x.rise) along h, refl)
+  rise_more (m ∷ ls) (y ∷ ys) l x old mid new along h = (along.0, along.1, rise_more ls ys l x along.0 mid new along.2 h)
+  rise_more [] (y ∷ ys) l x old mid new along h = absurd along
+  rise_more (m ∷ ls) [] l x old mid new along h = absurd along
+
+  ran_nothing : (V : Whole) (core : Core S R W w) → Stands o r w U core V → Ran o r w U [] V core [] core
+  ran_nothing V core stands = record { played = tt; after = V; seen = []; run = refl; rose = refl; stands = stands }
+
+  -- one line more
+  ran_more : (cs : List Command) (c : Command) (ls : List Line) (l : Line) (V : Whole) (old mid new : Core S R W w) → Ran o r w U cs V old ls mid → Acts o r w c l mid new → Ran o r w U (cs ++ c ∷ []) V old (ls ++ l ∷ []) new
+  ran_more cs c ls l V old mid new ran acts =
+      let goes = acts.steps U ran.after ran.stands in
+      let x : Observation = record { rise = goes.rise; made = goes.made } in
+      record {
+        played = played_more cs ls c l acts.says ran.played;
+        after = goes.after;
+        seen = ran.seen ++ x ∷ [];
+        run = run_more U ls ran.seen l x V ran.after goes.after ran.run goes.step;
+        rose = rise_more ls ran.seen l x old mid new ran.rose goes.rises;
+        stands = goes.stands;
+      }
+
+  -- ---- what the sink took
+
+  pub begins : (V : Whole) (core : Core S R W w) (a : Option (List ℕ)) → Stands o r w U core V → Tells o r w U [] V core core a a
+  begins V core a stands = record { lines = []; ran = ran_nothing V core stands; text = Takes-nil a }
+
+  module _ (all : List Command) (k : ℕ) (V : Whole) (first old : Core S R W w) (a b : Option (List ℕ)) (so_far : Tells o r w U (take k all) V first old a b) where
+    -- nothing more was done
+    pub in_front : TellsFront o r w U all V first old a b
+    in_front = record {
+      count = k;
+      lines = so_far.lines;
+      ran = so_far.ran;
+      told = length so_far.lines;
+      late = omega arith;
+      text = subst (λ ls. Takes a b (lines_text ls)) (sym (take_whole so_far.lines)) so_far.text;
+    }
+
+    module _ (c : Command) (l : Line) (new : Core S R W w) (front : take k all ++ c ∷ [] ≡ take (k + 1) all) (acts : Acts o r w c l old new) where
+      lines : List Line
+      lines = so_far.lines ++ l ∷ []
+
+      ran : Ran o r w U (take (k + 1) all) V first lines new
+      unfolding lines
+      ran = subst (λ cs. Ran o r w U cs V first lines new) front (ran_more (take k all) c so_far.lines l V first old new so_far.ran acts)
+
+      -- one command more was done and told
+      pub goes_on : (d : Option (List ℕ)) → Takes b d (line_text l) → Tells o r w U (take (k + 1) all) V first new a d
+      unfolding lines
+      goes_on d told = record {
+        lines = lines;
+        ran = ran;
+        text = subst (λ xs. Takes a d xs) (sym (lines_more so_far.lines l)) (Takes-trans a b d (lines_text so_far.lines) (line_text l) so_far.text told);
+      }
+
+      -- it was done and not told
+      pub untold : TellsFront o r w U all V first new a b
+      unfolding lines
+      untold = record {
+        count = k + 1;
+        lines = lines;
+        ran = ran;
+        told = length so_far.lines;
+        late = one_longer so_far.lines l;
+        text = subst (λ ls. Takes a b (lines_text ls)) (sym (take_front so_far.lines (l ∷ []))) so_far.text;
+      }
+
+      -- it was done, and a front of its line was told
+      pub partly : (d : Option (List ℕ)) (n : ℕ) → Takes b d (take n (line_text l)) → TellsPartly o r w U all V first new a d
+      unfolding lines
+      partly d n told = record {
+        count = k + 1;
+        lines = lines;
+        ran = ran;
+        told = length so_far.lines;
+        late = one_longer so_far.lines l;
+        bytes = n;
+        text = subst (λ xs. Takes a d xs) (sym shown) (Takes-trans a b d (lines_text so_far.lines) (take n (line_text l)) so_far.text told);
+      }
+        where
+          last : lines_text (drop (length so_far.lines) lines) ≡ line_text l
+          last = ap lines_text (drop_front so_far.lines (l ∷ [])) ∙ append-nil (line_text l)
+
+          shown : lines_text (take (length so_far.lines) lines) ++ take n (lines_text (drop (length so_far.lines) lines)) ≡ lines_text so_far.lines ++ take n (line_text l)
+          shown = ap (λ ls. lines_text ls ++ take n (lines_text (drop (length so_far.lines) lines))) (take_front so_far.lines (l ∷ [])) ∙ ap (λ xs. lines_text so_far.lines ++ take n xs) last
+
+-- what holds of each element of a list holds of the one at a place
+pub all_there : (test : Command → Bool) (cs : List Command) (i : ℕ) (c : Command) → list_all test cs ≡ true → i < length cs → c ≡ get_or cs i c → test c ≡ true
+all_there test [] i c h lt at = absurd (omega arith)
+all_there test (d ∷ ds) zero c h lt at = subst (λ (x : Command). test x ≡ true) (sym at) (and_parts (test d) (list_all test ds) h).0
+all_there test (d ∷ ds) (suc i) c h lt at = all_there test ds i c (and_parts (test d) (list_all test ds) h).1 (omega arith) at
+
+pub if_ok : {T E : Type 0} (result : Result T E) (P Q : Type 0) → (P → Q) → OnOk result P → OnOk result Q
+if_ok (Ok x) P Q f h = f h
+if_ok (Err e) P Q f h = tt
+
+-- from its end on, all of a list is taken
+pub take_all : (cs : List Command) (i : ℕ) → (i < length cs → ⊥) → take i cs ≡ cs
+take_all [] zero h = refl
+take_all [] (suc i) h = refl
+take_all (d ∷ ds) zero h = absurd (h (omega arith))
+take_all (d ∷ ds) (suc i) h = ap (λ xs. d ∷ xs) (take_all ds i (λ lt. h (omega (arith, lt))))
