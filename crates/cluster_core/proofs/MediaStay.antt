@@ -15,7 +15,7 @@ use Rattle.cluster_core.specs.Here.{runs_here}
 use Rattle.cluster_core.specs.Kept.{KeepsRest}
 use Rattle.cluster_core.specs.Reserved.{room_in}
 use Rattle.cluster_core.specs.Opened.{Spaces, IsFull, KeepsNode, FailsNode}
-use Rattle.cluster_core.specs.Seeks.{HandSeeks, SeeksOf, OpensRow, TriesRow, NewSource, copy_at}
+use Rattle.cluster_core.specs.Seeks.{HandSeeks, SeeksOf, OpensRow, TriesRow, copy_at}
 use Rattle.cluster_core.specs.declared.node.Node.{Node}
 use Rattle.cluster_core.specs.declared.hand.Hand.{Hand}
 use Rattle.cluster_core.specs.declared.hand.Stream.{Stream}
@@ -53,22 +53,24 @@ module _ {S R W : Type 0} (o : objects.Ghosts S R W) where
   fault_less s = omega arith
 
   -- the same tiers
-  pub tiers_same : {n m : Node S} → m.tiers ≡ n.tiers → TiersStay o n m
+  tiers_same : {n m : Node S} → m.tiers ≡ n.tiers → TiersStay o n m
   tiers_same {n} {m} same = record {
     same_length = ap (λ v. length v.items) same;
     faults = λ t s u was is. subst (λ q. o.faults s ≤ o.faults q) (same_Some s u (sym was ∙ sym (ap (λ v. slice_get v.items t) same) ∙ is)) (fault_less s);
   }
 
   -- one tier changed, and its count didn't fall
-  pub tiers_at : {n m : Node S} {t : ℕ} {P : S → S → Type 0} → ChangesAt n.tiers.items m.tiers.items t P → ((s u : S) → P s u → o.faults s ≤ o.faults u) → TiersStay o n m
+  tiers_at : {n m : Node S} {t : ℕ} {P : S → S → Type 0} → ChangesAt n.tiers.items m.tiers.items t P → ((s u : S) → P s u → o.faults s ≤ o.faults u) → TiersStay o n m
   tiers_at {n} {m} {t} change gives = record {
     same_length = change.same_length;
     faults = each_has n.tiers.items m.tiers.items t change gives fault_less;
   }
 
+  -- one tier told what it told
   tiers_keep : {n m : Node S} {t : ℕ} → ChangesAt n.tiers.items m.tiers.items t (Keeps o) → TiersStay o n m
   tiers_keep change = tiers_at change (λ s u k. k.faults)
 
+  -- one change after another
   tiers_then : {n m k : Node S} → TiersStay o n m → TiersStay o m k → TiersStay o n k
   tiers_then {n} {m} {k} a b = record {
     same_length = b.same_length ∙ a.same_length;
@@ -105,6 +107,7 @@ module _ {S R W : Type 0} (o : objects.Ghosts S R W) where
     each = each_has old new i change gives (λ n. tiers_same refl);
   }
 
+  -- one change after another
   nodes_then : {a b c : List (Node S)} → NodesStay o a b → NodesStay o b c → NodesStay o a c
   nodes_then {a} {b} {c} one two = record {
     same_length = two.same_length ∙ one.same_length;
@@ -151,13 +154,8 @@ module _ {S R W : Type 0} (o : objects.Ghosts S R W) where
     media_then one two = record { stores = two.stores ∙ one.stores; workers = nodes_then one.workers two.workers }
 
     -- one worker changed
-    pub media_by : {old new : Core S R W w} {i : ℕ} {P : Node S → Node S → Type 0} → KeepsRest old new → ChangesAt old.workers.items new.workers.items i P → ((n m : Node S) → P n m → TiersStay o n m) → MediaStays o old new
+    media_by : {old new : Core S R W w} {i : ℕ} {P : Node S → Node S → Type 0} → KeepsRest old new → ChangesAt old.workers.items new.workers.items i P → ((n m : Node S) → P n m → TiersStay o n m) → MediaStays o old new
     media_by rest change gives = record { stores = rest.stores; workers = nodes_at change gives }
-
-    pub media_at : {old new : Core S R W w} {i : ℕ} → KeepsRest old new → ChangesAt old.workers.items new.workers.items i (TiersStay o) → MediaStays o old new
-    media_at rest change = media_by rest change (λ n m stays. stays)
-
-    -- ---- a reservation
 
     -- a worker made a reservation
     pub media_opened : {old new : Core S R W w} (i len : ℕ) (room : Option ℕ) → KeepsRest old new → IsSomeAnd room (λ n. ChangesAt old.workers.items new.workers.items i (Spaces o n len)) → MediaStays o old new
@@ -190,8 +188,6 @@ module _ {S R W : Type 0} (o : objects.Ghosts S R W) where
           | true ↦ λ runs. media_by rest (freed v started room is runs) (λ n m f. tiers_same f.1)
           | false ↦ λ stands. media_kept rest (stopped v started room is stands)
         ] refl
-
-    -- ---- a source
 
     module _ (r : reads.Ghosts R) where
       -- a source was sought
