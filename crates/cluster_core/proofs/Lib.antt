@@ -55,3 +55,4 @@ pub mod DoneTests
 pub mod DoneGo
 pub mod DoneSteps
 pub mod DonePlace
+pub mod MediaStay

@@ -5,6 +5,7 @@ ghost use Rattle.fs_model.specs.Lookups.{no_worker};
 ghost use Rattle.outside.specs.Causes.{Rose};
 ghost use Rattle.outside.specs.Contents.{IsRange};
 ghost use Rattle.tier_book.specs.Rows.{copied_of, fitting, free_at, room_numbered, row_of};
+ghost use Rattle.cluster_core.specs.Media.{TiersStay};
 ghost use Rattle.cluster_core.specs.Tiers.{ChangesAt, IsFaultOrCrossed, IsFaultOrShort, IsPut, IsPutOrNot, Keeps, object_key};
 ghost use Rattle.cluster_core.specs.Nodes.{HasSpace, IsAsBefore, IsCommitted, IsFreed, IsUsed, commit_as, node_row};
 
@@ -148,6 +149,7 @@ impl<O: Objects> Node<O> {
     ) -> Result<(), Fault>
         ensures row { OnOk result (IsSomeAnd (room_numbered room self.old.book.rooms) (λ r. block.len ≤ r.bytes) → node_row self.new ≡ commit_as block.keep block.pin room block.file block.block block.len (node_row self.old)) }
         ensures sizes { self.new.book.sizes ≡ self.old.book.sizes }
+        ensures stays { TiersStay O.Objects self.old self.new }
 
         ensures done { OnOk result (row_of block.file block.block self.old.book.rows ≡ None → IfSome (room_numbered room self.old.book.rooms) (λ r. block.len ≤ r.bytes → ChangesAt self.old.tiers.items self.new.tiers.items r.tier (IsPut O.Objects O.Writer.ObjectWrite writer key))) }
         ensures there { IsSome (row_of block.file block.block self.old.book.rows) → IsOk result × (self.new.tiers ≡ self.old.tiers) }

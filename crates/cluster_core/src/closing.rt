@@ -7,6 +7,7 @@ ghost use Rattle.cluster_core.specs.Goes.{Steps};
 ghost use Rattle.cluster_core.specs.Reserved.{room_in};
 ghost use Rattle.cluster_core.specs.Here.{runs_here};
 ghost use Rattle.cluster_core.specs.Kept.{KeepsRest};
+ghost use Rattle.cluster_core.specs.Media.{MediaStays};
 ghost use Rattle.cluster_core.specs.Nodes.{FreesRoom};
 ghost use Rattle.cluster_core.specs.Tiers.{ChangesAt};
 
@@ -48,7 +49,8 @@ impl<O: Objects> Core<O, O::Reader, O::Writer> {
     /// `close`: ends a label, and frees what it reserved.
     pub(crate) fn close_label(&mut self, actor: Actor, label: &Label) -> Reply
         requires { is_actor actor ≡ true }
-        ensures { Steps O.Objects O.Reader.ObjectRead O.Writer.ObjectWrite self.old self.new actor (Event.Close label.now) result }
+        ensures steps { Steps O.Objects O.Reader.ObjectRead O.Writer.ObjectWrite self.old self.new actor (Event.Close label.now) result }
+        ensures media { MediaStays O.Objects self.old self.new }
     {
         match self.take_hand(actor, label) {
             None => Reply::Refused(Refusal::BadLabel),

@@ -6,6 +6,7 @@ ghost use Rattle.fs_model.specs.Lookups.{stored_is_yes};
 ghost use Rattle.inode_tree.specs.Rows.{node_of};
 ghost use Rattle.file_writer.specs.Writing.{block_writer, wants_room};
 ghost use Rattle.cluster_core.specs.Kept.{KeepsRest};
+ghost use Rattle.cluster_core.specs.Media.{MediaStays, TiersStay};
 ghost use Rattle.cluster_core.specs.Tiers.{ChangesAt};
 ghost use Rattle.cluster_core.specs.Writers.{Commits, Loses, open_len, open_number};
 ghost use Rattle.cluster_core.specs.Committed.{closed_writer, finished_of, keeps, key_at, pins};
@@ -78,6 +79,7 @@ fn commit_at<O: Objects>(
 ) -> Result<(), Fault>
     ensures done { OnOk result (Commits O.Objects O.Writer.ObjectWrite room key pen block node.old node.new) }
     ensures lost { OnErr result (Loses O.Objects O.Writer.ObjectWrite room key pen block node.old node.new) }
+    ensures stays { TiersStay O.Objects node.old node.new }
 {
     node.commit(room, key, pen, block)
 }
@@ -112,6 +114,7 @@ impl<O: Objects> Core<O, O::Reader, O::Writer> {
         ensures hands { self.new.hands ≡ self.old.hands }
         ensures done { OnOk result (ChangesAt self.old.workers.items self.new.workers.items (pred worker) (Commits O.Objects O.Writer.ObjectWrite room key pen block)) }
         ensures lost { OnErr result (ChangesAt self.old.workers.items self.new.workers.items (pred worker) (Loses O.Objects O.Writer.ObjectWrite room key pen block)) }
+        ensures stays { ChangesAt self.old.workers.items self.new.workers.items (pred worker) (TiersStay O.Objects) }
     {
         commit_at(
             &mut self.workers[worker.0 as usize - 1],
@@ -151,6 +154,7 @@ impl<O: Objects> Core<O, O::Reader, O::Writer> {
         ensures closed { OnOk result (writer.new ≡ closed_writer false writer.old) }
         ensures broken { result ≡ Err Fail.Failed → writer.new ≡ closed_writer true writer.old }
         ensures memory { result ≡ Err Fail.Memory → (self.new.workers ≡ self.old.workers) × (writer.new ≡ writer.old) }
+        ensures media { MediaStays O.Objects self.old self.new }
     {
         let reserved = writer.room;
         let worker = writer.worker;

@@ -10,6 +10,7 @@ ghost use Rattle.cluster_core.specs.Openings.{here};
 ghost use Rattle.cluster_core.specs.Goes.{Steps};
 ghost use Rattle.cluster_core.specs.HandChanges.{AddsHand, KeepsHands};
 ghost use Rattle.cluster_core.specs.Here.{started_here};
+ghost use Rattle.cluster_core.specs.Media.{MediaStays};
 ghost use Rattle.cluster_core.specs.Names.{with_file};
 ghost use Rattle.cluster_core.specs.Tests.{create_test};
 ghost use Rattle.cluster_core.specs.Tiers.{ChangesAt};
@@ -137,7 +138,8 @@ impl<O: Objects> Core<O, O::Reader, O::Writer> {
     ) -> Reply
         requires actor { is_actor actor ≡ true }
         requires some { 0 < worker }
-        ensures { Steps O.Objects O.Reader.ObjectRead O.Writer.ObjectWrite self.old self.new actor (Event.Create label.now path.now WriteType.MustCache worker) result }
+        ensures steps { Steps O.Objects O.Reader.ObjectRead O.Writer.ObjectWrite self.old self.new actor (Event.Create label.now path.now WriteType.MustCache worker) result }
+        ensures media { MediaStays O.Objects self.old self.new }
     {
         if let Some(refusal) = self.create_refusal(actor, label, path, worker) {
             return Reply::Refused(refusal);

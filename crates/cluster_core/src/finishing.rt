@@ -8,6 +8,7 @@ ghost use Rattle.fs_model.specs.Spelled.{is_actor};
 ghost use Rattle.fs_model.specs.Lookups.{find_node};
 ghost use Rattle.inode_tree.specs.Rows.{node_of, file_row};
 ghost use Rattle.cluster_core.specs.Goes.{Steps};
+ghost use Rattle.cluster_core.specs.Media.{MediaStays};
 ghost use Rattle.cluster_core.specs.Names.{with_done};
 ghost use Rattle.cluster_core.specs.Writers.{MayPut, StepsFrom, done_test};
 
@@ -50,6 +51,7 @@ impl<O: Objects> Core<O, O::Reader, O::Writer> {
         ensures area { self.new.area ≡ self.old.area }
         ensures workers { self.new.workers ≡ self.old.workers }
         ensures hands { self.new.hands ≡ self.old.hands }
+        ensures stores { self.new.stores ≡ self.old.stores }
     {
         self.names.finish(path, row, len);
     }
@@ -70,7 +72,8 @@ impl<O: Objects> Core<O, O::Reader, O::Writer> {
         requires found { find_node self.old.names.nodes path.now ≡ Some (node_of row) }
         requires file { row.dir ≡ false }
         requires id { row.id ≡ writer.file }
-        ensures { StepsFrom O.Objects O.Reader.ObjectRead O.Writer.ObjectWrite self.old self.new actor label writer (Event.Finish label) result }
+        ensures steps { StepsFrom O.Objects O.Reader.ObjectRead O.Writer.ObjectWrite self.old self.new actor label writer (Event.Finish label) result }
+        ensures media { MediaStays O.Objects self.old self.new }
     {
         if let Some(refusal) = self.done_refusal(&writer) {
             return self.put_writer(actor, label, writer, Reply::Refused(refusal));
@@ -102,7 +105,8 @@ impl<O: Objects> Core<O, O::Reader, O::Writer> {
     ) -> Reply
         requires actor { is_actor actor ≡ true }
         requires back { MayPut self.old.hands.items actor label }
-        ensures { StepsFrom O.Objects O.Reader.ObjectRead O.Writer.ObjectWrite self.old self.new actor label writer (Event.Finish label) result }
+        ensures steps { StepsFrom O.Objects O.Reader.ObjectRead O.Writer.ObjectWrite self.old self.new actor label writer (Event.Finish label) result }
+        ensures media { MediaStays O.Objects self.old self.new }
     {
         match self.names.place_of(alloc, writer.file) {
             Err(_) => self.put_writer(actor, label, writer, Reply::Refused(Refusal::Memory)),
@@ -114,7 +118,8 @@ impl<O: Objects> Core<O, O::Reader, O::Writer> {
     /// `done`: commits the open block of a writer, whose file is done then, and ends its label.
     pub(crate) fn finish(&mut self, alloc: Global, actor: Actor, label: &Label) -> Reply
         requires { is_actor actor ≡ true }
-        ensures { Steps O.Objects O.Reader.ObjectRead O.Writer.ObjectWrite self.old self.new actor (Event.Finish label.now) result }
+        ensures steps { Steps O.Objects O.Reader.ObjectRead O.Writer.ObjectWrite self.old self.new actor (Event.Finish label.now) result }
+        ensures media { MediaStays O.Objects self.old self.new }
     {
         match self.take_writer(actor, label) {
             None => Reply::Refused(Refusal::BadLabel),

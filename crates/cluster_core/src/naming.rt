@@ -5,6 +5,7 @@ ghost use Rattle.fs_model.specs.declared.event.Event.{Event};
 ghost use Rattle.fs_model.specs.declared.reply.Reply.{Reply};
 ghost use Rattle.cluster_core.specs.Tests.{mkdir_test};
 ghost use Rattle.cluster_core.specs.Goes.{Steps};
+ghost use Rattle.cluster_core.specs.Media.{MediaStays};
 
 use crate::cluster::Core;
 use crate::names::{MKDIR_ENTRY, walk_refusal};
@@ -39,7 +40,8 @@ impl<O: Objects> Core<O, O::Reader, O::Writer> {
 
     /// `mkdir`: adds a directory.
     pub(crate) fn mkdir(&mut self, alloc: Global, actor: Actor, path: &Path) -> Reply
-        ensures { Steps O.Objects O.Reader.ObjectRead O.Writer.ObjectWrite self.old self.new actor (Event.Mkdir path.now) result }
+        ensures steps { Steps O.Objects O.Reader.ObjectRead O.Writer.ObjectWrite self.old self.new actor (Event.Mkdir path.now) result }
+        ensures media { MediaStays O.Objects self.old self.new }
     {
         if let Some(refusal) = self.mkdir_refusal(path) {
             return Reply::Refused(refusal);

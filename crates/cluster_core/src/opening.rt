@@ -11,6 +11,7 @@ ghost use Rattle.cluster_core.specs.Goes.{Steps};
 ghost use Rattle.cluster_core.specs.HandChanges.{KeepsHands};
 ghost use Rattle.cluster_core.specs.Kept.{KeepsRest};
 ghost use Rattle.cluster_core.specs.LabelsView.{HasRoom};
+ghost use Rattle.cluster_core.specs.Media.{MediaStays};
 ghost use Rattle.cluster_core.specs.Openings.{has_here, here};
 ghost use Rattle.cluster_core.specs.Tests.{done_test, file_there, open_test};
 ghost use Rattle.cluster_core.specs.Tiers.{ChangesAt};
@@ -114,7 +115,8 @@ impl<O: Objects> Core<O, O::Reader, O::Writer> {
         worker: WorkerNo,
     ) -> Reply
         requires { is_actor actor ≡ true }
-        ensures { Steps O.Objects O.Reader.ObjectRead O.Writer.ObjectWrite self.old self.new actor (Event.OpenFile label.now path.now ReadType.NoCache worker) result }
+        ensures steps { Steps O.Objects O.Reader.ObjectRead O.Writer.ObjectWrite self.old self.new actor (Event.OpenFile label.now path.now ReadType.NoCache worker) result }
+        ensures media { MediaStays O.Objects self.old self.new }
     {
         match self.row_to_open(actor, label, path, worker) {
             Err(refusal) => Reply::Refused(refusal),

@@ -4,6 +4,7 @@ ghost use Rattle.std.specs.Prelude.{◌≡◌, ◌<◌, ◌≤◌, ◌/◌, ◌^
 ghost use Rattle.fs_model.specs.declared.event.Event.{Event};
 ghost use Rattle.fs_model.specs.Spelled.{is_actor, is_piece_len};
 ghost use Rattle.cluster_core.specs.Goes.{Steps};
+ghost use Rattle.cluster_core.specs.Media.{MediaStays};
 ghost use Rattle.cluster_core.specs.Polls.{block_number, due_of, reply_of, HandPolls, PollOf, SourcePolls};
 
 use crate::cluster::Core;
@@ -174,7 +175,8 @@ impl<O: Objects> Core<O, O::Reader, O::Writer> {
     pub(crate) fn poll(&mut self, alloc: Global, actor: Actor, label: &Label, max: u32) -> Reply
         requires actor { is_actor actor ≡ true }
         requires max { is_piece_len max ≡ true }
-        ensures { Steps O.Objects O.Reader.ObjectRead O.Writer.ObjectWrite self.old self.new actor (Event.Poll label.now max) result }
+        ensures steps { Steps O.Objects O.Reader.ObjectRead O.Writer.ObjectWrite self.old self.new actor (Event.Poll label.now max) result }
+        ensures media { MediaStays O.Objects self.old self.new }
     {
         match self.take_hand(actor, label) {
             None => Reply::Refused(Refusal::BadLabel),

@@ -8,6 +8,7 @@ ghost use Rattle.fs_model.specs.BytesOutcomes.{made_byte};
 ghost use Rattle.fs_model.specs.Spelled.{is_actor, is_fill};
 ghost use Rattle.file_writer.specs.Writing.{wants_room};
 ghost use Rattle.cluster_core.specs.Goes.{Steps};
+ghost use Rattle.cluster_core.specs.Media.{MediaStays};
 ghost use Rattle.cluster_core.specs.Putting.{DidIn, DidPiece, DidPut, missing, put_reply};
 
 use crate::cluster::Core;
@@ -159,7 +160,8 @@ impl<O: Objects> Core<O, O::Reader, O::Writer> {
     pub(crate) fn put(&mut self, alloc: Global, actor: Actor, label: &Label, fill: &Fill) -> Reply
         requires actor { is_actor actor ≡ true }
         requires fill { is_fill fill.now ≡ true }
-        ensures { Steps O.Objects O.Reader.ObjectRead O.Writer.ObjectWrite self.old self.new actor (Event.Put label.now fill.now) result }
+        ensures steps { Steps O.Objects O.Reader.ObjectRead O.Writer.ObjectWrite self.old self.new actor (Event.Put label.now fill.now) result }
+        ensures media { MediaStays O.Objects self.old self.new }
     {
         match self.take_hand(actor, label) {
             None => Reply::Refused(Refusal::BadLabel),

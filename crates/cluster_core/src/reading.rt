@@ -8,6 +8,7 @@ ghost use Rattle.inode_tree.specs.Rows.{file_row};
 ghost use Rattle.cluster_core.specs.Goes.{Steps};
 ghost use Rattle.cluster_core.specs.HandFits.{source_of};
 ghost use Rattle.cluster_core.specs.Kept.{KeepsRest};
+ghost use Rattle.cluster_core.specs.Media.{MediaStays};
 ghost use Rattle.cluster_core.specs.Polls.{block_number};
 ghost use Rattle.cluster_core.specs.Seeks.{FailsRow, HandSeeks, OpensRow, SeeksOf, TriesRow, first_copy, found_reply, left_of, place_in, wanted};
 ghost use Rattle.cluster_core.specs.Sources.{MaySource};
@@ -178,7 +179,8 @@ impl<O: Objects> Core<O, O::Reader, O::Writer> {
     /// `next`: a source for the block of a stream's position.
     pub(crate) fn next(&mut self, alloc: Global, actor: Actor, label: &Label) -> Reply
         requires { is_actor actor ≡ true }
-        ensures { Steps O.Objects O.Reader.ObjectRead O.Writer.ObjectWrite self.old self.new actor (Event.Next label.now) result }
+        ensures steps { Steps O.Objects O.Reader.ObjectRead O.Writer.ObjectWrite self.old self.new actor (Event.Next label.now) result }
+        ensures media { MediaStays O.Objects self.old self.new }
     {
         match self.take_hand(actor, label) {
             None => Reply::Refused(Refusal::BadLabel),

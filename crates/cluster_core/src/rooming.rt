@@ -11,6 +11,7 @@ ghost use Rattle.cluster_core.specs.declared.hand.Hand.{Hand};
 ghost use Rattle.cluster_core.specs.Goes.{Steps};
 ghost use Rattle.cluster_core.specs.HandChanges.{AddsHand};
 ghost use Rattle.cluster_core.specs.Kept.{KeepsRest};
+ghost use Rattle.cluster_core.specs.Media.{MediaStays};
 ghost use Rattle.cluster_core.specs.Tiers.{ChangesAt};
 ghost use Rattle.cluster_core.specs.Writers.{MayPut, StepsFrom, lacks_room, next_of, room_test};
 
@@ -136,7 +137,8 @@ impl<O: Objects> Core<O, O::Reader, O::Writer> {
     ) -> Reply
         requires actor { is_actor actor ≡ true }
         requires back { MayPut self.old.hands.items actor label }
-        ensures { StepsFrom O.Objects O.Reader.ObjectRead O.Writer.ObjectWrite self.old self.new actor label writer (Event.Room label) result }
+        ensures steps { StepsFrom O.Objects O.Reader.ObjectRead O.Writer.ObjectWrite self.old self.new actor label writer (Event.Room label) result }
+        ensures media { MediaStays O.Objects self.old self.new }
     {
         if let Some(refusal) = self.room_refusal(&writer) {
             return self.put_writer(actor, label, writer, Reply::Refused(refusal));
@@ -175,7 +177,8 @@ impl<O: Objects> Core<O, O::Reader, O::Writer> {
     /// `room`: opens the next block of a writer where one is wanted, and commits the full one before.
     pub(crate) fn room(&mut self, alloc: Global, actor: Actor, label: &Label) -> Reply
         requires { is_actor actor ≡ true }
-        ensures { Steps O.Objects O.Reader.ObjectRead O.Writer.ObjectWrite self.old self.new actor (Event.Room label.now) result }
+        ensures steps { Steps O.Objects O.Reader.ObjectRead O.Writer.ObjectWrite self.old self.new actor (Event.Room label.now) result }
+        ensures media { MediaStays O.Objects self.old self.new }
     {
         match self.take_writer(actor, label) {
             None => Reply::Refused(Refusal::BadLabel),

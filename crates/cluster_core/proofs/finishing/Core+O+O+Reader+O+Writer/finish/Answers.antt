@@ -1,5 +1,12 @@
 use Rattle.cluster_core.proofs.DoneSteps.{done_bad}
+use Rattle.cluster_core.proofs.MediaStay.{media_kept, media_then}
 use Rattle.cluster_core.proofs.finishing.Core+O+O+Reader+O+Writer.finish.Goals as goal
 
-pub returns-in-None : goal.returns-in-None
-returns-in-None g c = done_bad g.O.Objects g.O.Reader.ObjectRead g.O.Writer.ObjectWrite c.args.self.now _ c.args.label.now c.args.actor c.requires c.in-None.ensures.rest c.in-None.ensures.workers c.in-None.ensures.same c.in-None.ensures.none
+pub returns-in-None-clause-steps : goal.returns-in-None-clause-steps
+returns-in-None-clause-steps g c = done_bad g.O.Objects g.O.Reader.ObjectRead g.O.Writer.ObjectWrite c.args.self.now _ c.args.label.now c.args.actor c.requires c.in-None.ensures.rest c.in-None.ensures.workers c.in-None.ensures.same c.in-None.ensures.none
+
+pub returns-in-None-clause-media : goal.returns-in-None-clause-media
+returns-in-None-clause-media g c = media_kept g.O.Objects c.in-None.ensures.rest c.in-None.ensures.workers
+
+pub returns-in-Some-clause-media : goal.returns-in-Some-clause-media
+returns-in-Some-clause-media g c = media_then g.O.Objects (media_kept g.O.Objects c.in-Some.ensures.took.rest c.in-Some.ensures.took.workers) c.finish_for.ensures.media

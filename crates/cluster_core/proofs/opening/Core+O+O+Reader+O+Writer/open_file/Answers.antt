@@ -1,18 +1,29 @@
+use Rattle.std.proofs.Common.{refl}
 use Rattle.inode_tree.specs.Rows.{file_in_row}
 use Rattle.cluster_core.proofs.OpenGo.{open_refused, open_short, open_done}
+use Rattle.cluster_core.proofs.MediaStay.{media_same, media_kept, media_then}
 use Rattle.cluster_core.proofs.opening.Core+O+O+Reader+O+Writer.open_file.Goals as goal
 
-pub returns-in-Err : goal.returns-in-Err
-returns-in-Err g c = open_refused g.O.Objects g.O.Reader.ObjectRead g.O.Writer.ObjectWrite c.args.self.now c.args.actor c.requires c.args.label.now c.args.path.now c.args.worker c.in-Err.refusal (c.in-Err.ensures).err
+pub returns-in-Err-clause-steps : goal.returns-in-Err-clause-steps
+returns-in-Err-clause-steps g c = open_refused g.O.Objects g.O.Reader.ObjectRead g.O.Writer.ObjectWrite c.args.self.now c.args.actor c.requires c.args.label.now c.args.path.now c.args.worker c.in-Err.refusal (c.in-Err.ensures).err
 
-pub returns-in-Err-prepare_label : goal.returns-in-Err-prepare_label
-returns-in-Err-prepare_label g c =
+pub returns-in-Err-prepare_label-clause-steps : goal.returns-in-Err-prepare_label-clause-steps
+returns-in-Err-prepare_label-clause-steps g c =
     let did = c.prepare_label.ensures in
     open_short g.O.Objects g.O.Reader.ObjectRead g.O.Writer.ObjectWrite c.args.self.now c.args.actor c.requires c.args.label.now c.args.path.now c.args.worker c.prepare_label.new.self did.rest did.workers did.hands
 
-pub returns-in-Ok-prepare_label : goal.returns-in-Ok-prepare_label
-returns-in-Ok-prepare_label g c =
+pub returns-in-Ok-prepare_label-clause-steps : goal.returns-in-Ok-prepare_label-clause-steps
+returns-in-Ok-prepare_label-clause-steps g c =
     let may = (c.in-Ok.ensures).ok in
     let did = c.in-Ok-prepare_label.ensures in
     let add = c.add_hand.ensures in
     open_done g.O.Objects g.O.Reader.ObjectRead g.O.Writer.ObjectWrite c.args.self.now c.args.actor c.requires c.args.label.now c.args.path.now c.args.worker c.prepare_label.new.self c.add_hand.new.self (file_in_row c.in-Ok.row) c.in-Ok-prepare_label.copy did.label may.0 may.1 may.2 did.rest did.workers did.hands add.rest add.workers add.put
+
+pub returns-in-Err-clause-media : goal.returns-in-Err-clause-media
+returns-in-Err-clause-media g c = media_same g.O.Objects refl refl
+
+pub returns-in-Err-prepare_label-clause-media : goal.returns-in-Err-prepare_label-clause-media
+returns-in-Err-prepare_label-clause-media g c = media_kept g.O.Objects c.prepare_label.ensures.rest c.prepare_label.ensures.workers
+
+pub returns-in-Ok-prepare_label-clause-media : goal.returns-in-Ok-prepare_label-clause-media
+returns-in-Ok-prepare_label-clause-media g c = media_then g.O.Objects (media_kept g.O.Objects c.in-Ok-prepare_label.ensures.rest c.in-Ok-prepare_label.ensures.workers) (media_kept g.O.Objects c.add_hand.ensures.rest c.add_hand.ensures.workers)

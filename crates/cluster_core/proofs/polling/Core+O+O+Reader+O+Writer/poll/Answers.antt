@@ -1,13 +1,20 @@
 use Rattle.cluster_core.proofs.PollGo.{poll_no_label, poll_label}
+use Rattle.cluster_core.proofs.MediaStay.{media_kept, media_then}
 use Rattle.cluster_core.proofs.polling.Core+O+O+Reader+O+Writer.poll.Goals as goal
 
-pub returns-in-None : goal.returns-in-None
-returns-in-None g c =
+pub returns-in-None-clause-steps : goal.returns-in-None-clause-steps
+returns-in-None-clause-steps g c =
     let took = c.in-None.ensures in
     poll_no_label g.O.Objects g.O.Reader.ObjectRead g.O.Writer.ObjectWrite c.args.self.now c.take_hand.new.self c.args.actor c.requires.actor c.args.label.now c.args.max took.rest took.workers took.none took.same
 
-pub returns-in-Some : goal.returns-in-Some
-returns-in-Some g c =
+pub returns-in-Some-clause-steps : goal.returns-in-Some-clause-steps
+returns-in-Some-clause-steps g c =
     let took = c.in-Some.ensures in
     let put = c.put_hand.ensures in
     poll_label g.O.Objects g.O.Reader.ObjectRead g.O.Writer.ObjectWrite c.args.self.now c.take_hand.new.self c.args.actor c.requires.actor c.args.label.now c.args.max took.rest took.workers c.put_hand.new.self c.in-Some.row.hand c.poll_hand-gave.new.hand c.in-Some.row.label c.poll_hand-gave.result c.reply_of.result c.reply_of.ensures took.label took.taken put.rest put.workers put.put c.poll_hand-gave.ensures
+
+pub returns-in-None-clause-media : goal.returns-in-None-clause-media
+returns-in-None-clause-media g c = media_kept g.O.Objects c.in-None.ensures.rest c.in-None.ensures.workers
+
+pub returns-in-Some-clause-media : goal.returns-in-Some-clause-media
+returns-in-Some-clause-media g c = media_then g.O.Objects (media_kept g.O.Objects c.in-Some.ensures.rest c.in-Some.ensures.workers) (media_kept g.O.Objects c.put_hand.ensures.rest c.put_hand.ensures.workers)

@@ -2,30 +2,55 @@ use Rattle.std.proofs.Common.{true, false, ◌≡◌, refl, sym, ap, ◌∙◌, 
 use Rattle.cluster_core.proofs.RoomSteps.{ends_refused, ends_same}
 use Rattle.cluster_core.proofs.RoomAfter.{after_short, after_lost, after_opened, after_full, after_closed, after_failed}
 use Rattle.cluster_core.specs.Writers.{StepsFrom}
-use Rattle.std.specs.Prelude.{Ok, Err}
+use Rattle.std.specs.Prelude.{Ok, Err, pred}
 use Rattle.fs_model.specs.declared.event.Event.{Event}
+use Rattle.cluster_core.proofs.MediaStay.{media_kept, media_then, media_opened, media_full, media_short, media_failed}
 use Rattle.cluster_core.proofs.rooming.Core+O+O+Reader+O+Writer.room_for.Goals as goal
 
-pub returns-in-Some : goal.returns-in-Some
-returns-in-Some g c = subst (λ q. StepsFrom g.O.Objects g.O.Reader.ObjectRead g.O.Writer.ObjectWrite c.args.self.now c.put_writer.new.self c.args.actor c.args.label c.args.writer (Event.Room c.args.label) q) (sym c.put_writer.ensures.reply) (ends_refused g.O.Objects g.O.Reader.ObjectRead g.O.Writer.ObjectWrite c.args.self.now c.put_writer.new.self c.args.label c.args.actor c.requires.actor c.args.writer c.args.writer c.put_writer.ensures.rest c.put_writer.ensures.put c.in-Some.refusal c.in-Some.ensures.refused c.put_writer.ensures.workers refl)
+pub returns-in-Some-clause-steps : goal.returns-in-Some-clause-steps
+returns-in-Some-clause-steps g c = subst (λ q. StepsFrom g.O.Objects g.O.Reader.ObjectRead g.O.Writer.ObjectWrite c.args.self.now c.put_writer.new.self c.args.actor c.args.label c.args.writer (Event.Room c.args.label) q) (sym c.put_writer.ensures.reply) (ends_refused g.O.Objects g.O.Reader.ObjectRead g.O.Writer.ObjectWrite c.args.self.now c.put_writer.new.self c.args.label c.args.actor c.requires.actor c.args.writer c.args.writer c.put_writer.ensures.rest c.put_writer.ensures.put c.in-Some.refusal c.in-Some.ensures.refused c.put_writer.ensures.workers refl)
 
-pub returns-then-not-needs_room : goal.returns-then-not-needs_room
-returns-then-not-needs_room g c = subst (λ q. StepsFrom g.O.Objects g.O.Reader.ObjectRead g.O.Writer.ObjectWrite c.args.self.now c.put_writer-then-not-needs_room.new.self c.args.actor c.args.label c.args.writer (Event.Room c.args.label) q) (sym c.put_writer-then-not-needs_room.ensures.reply) (ends_same g.O.Objects g.O.Reader.ObjectRead g.O.Writer.ObjectWrite c.args.self.now c.put_writer-then-not-needs_room.new.self c.args.label c.args.actor c.requires.actor c.args.writer c.args.writer c.put_writer-then-not-needs_room.ensures.rest c.put_writer-then-not-needs_room.ensures.put c.in_default.ensures.refused (sym c.needs_room.ensures ∙ c.if-not-needs_room.true) c.put_writer-then-not-needs_room.ensures.workers refl)
+pub returns-then-not-needs_room-clause-steps : goal.returns-then-not-needs_room-clause-steps
+returns-then-not-needs_room-clause-steps g c = subst (λ q. StepsFrom g.O.Objects g.O.Reader.ObjectRead g.O.Writer.ObjectWrite c.args.self.now c.put_writer-then-not-needs_room.new.self c.args.actor c.args.label c.args.writer (Event.Room c.args.label) q) (sym c.put_writer-then-not-needs_room.ensures.reply) (ends_same g.O.Objects g.O.Reader.ObjectRead g.O.Writer.ObjectWrite c.args.self.now c.put_writer-then-not-needs_room.new.self c.args.label c.args.actor c.requires.actor c.args.writer c.args.writer c.put_writer-then-not-needs_room.ensures.rest c.put_writer-then-not-needs_room.ensures.put c.in_default.ensures.refused (sym c.needs_room.ensures ∙ c.if-not-needs_room.true) c.put_writer-then-not-needs_room.ensures.workers refl)
 
-pub returns-in-Err-Memory : goal.returns-in-Err-Memory
-returns-in-Err-Memory g c = subst (λ q. StepsFrom g.O.Objects g.O.Reader.ObjectRead g.O.Writer.ObjectWrite c.args.self.now c.put_writer-in-Err-Memory.new.self c.args.actor c.args.label c.args.writer (Event.Room c.args.label) q) (sym c.put_writer-in-Err-Memory.ensures.reply) (after_short g.O.Objects g.O.Reader.ObjectRead g.O.Writer.ObjectWrite c.args.self.now c.commit_block.new.self c.put_writer-in-Err-Memory.new.self c.args.label c.args.actor c.requires.actor c.args.writer c.commit_block.new.writer c.in-Err-Memory.ensures.rest c.in-Err-Memory.ensures.hands c.put_writer-in-Err-Memory.ensures.rest c.put_writer-in-Err-Memory.ensures.workers c.put_writer-in-Err-Memory.ensures.put (c.in-Err-Memory.ensures.memory (ap Err c.in-Err-Memory.field-0-is)).0 (c.in-Err-Memory.ensures.memory (ap Err c.in-Err-Memory.field-0-is)).1)
+pub returns-in-Err-Memory-clause-steps : goal.returns-in-Err-Memory-clause-steps
+returns-in-Err-Memory-clause-steps g c = subst (λ q. StepsFrom g.O.Objects g.O.Reader.ObjectRead g.O.Writer.ObjectWrite c.args.self.now c.put_writer-in-Err-Memory.new.self c.args.actor c.args.label c.args.writer (Event.Room c.args.label) q) (sym c.put_writer-in-Err-Memory.ensures.reply) (after_short g.O.Objects g.O.Reader.ObjectRead g.O.Writer.ObjectWrite c.args.self.now c.commit_block.new.self c.put_writer-in-Err-Memory.new.self c.args.label c.args.actor c.requires.actor c.args.writer c.commit_block.new.writer c.in-Err-Memory.ensures.rest c.in-Err-Memory.ensures.hands c.put_writer-in-Err-Memory.ensures.rest c.put_writer-in-Err-Memory.ensures.workers c.put_writer-in-Err-Memory.ensures.put (c.in-Err-Memory.ensures.memory (ap Err c.in-Err-Memory.field-0-is)).0 (c.in-Err-Memory.ensures.memory (ap Err c.in-Err-Memory.field-0-is)).1)
 
-pub returns-in-Err-Failed : goal.returns-in-Err-Failed
-returns-in-Err-Failed g c = subst (λ q. StepsFrom g.O.Objects g.O.Reader.ObjectRead g.O.Writer.ObjectWrite c.args.self.now c.put_writer-in-Err-Failed.new.self c.args.actor c.args.label c.args.writer (Event.Room c.args.label) q) (sym c.put_writer-in-Err-Failed.ensures.reply) (after_lost g.O.Objects g.O.Reader.ObjectRead g.O.Writer.ObjectWrite c.args.self.now c.commit_block.new.self c.put_writer-in-Err-Failed.new.self c.args.label c.args.actor c.requires.actor c.args.writer c.commit_block.new.writer c.in-Err-Failed.ensures.rest c.in-Err-Failed.ensures.hands c.put_writer-in-Err-Failed.ensures.rest c.put_writer-in-Err-Failed.ensures.workers c.put_writer-in-Err-Failed.ensures.put c.in_default.ensures.refused (sym c.needs_room.ensures ∙ c.if-not-needs_room.false) (λ e. let never : false ≡ true = (c.in-Err-Failed.ensures.none e).0 in absurd (cc)) (c.in-Err-Failed.ensures.lost (ap Err c.in-Err-Failed.field-0-is)) (c.in-Err-Failed.ensures.broken (ap Err c.in-Err-Failed.field-0-is)))
+pub returns-in-Err-Failed-clause-steps : goal.returns-in-Err-Failed-clause-steps
+returns-in-Err-Failed-clause-steps g c = subst (λ q. StepsFrom g.O.Objects g.O.Reader.ObjectRead g.O.Writer.ObjectWrite c.args.self.now c.put_writer-in-Err-Failed.new.self c.args.actor c.args.label c.args.writer (Event.Room c.args.label) q) (sym c.put_writer-in-Err-Failed.ensures.reply) (after_lost g.O.Objects g.O.Reader.ObjectRead g.O.Writer.ObjectWrite c.args.self.now c.commit_block.new.self c.put_writer-in-Err-Failed.new.self c.args.label c.args.actor c.requires.actor c.args.writer c.commit_block.new.writer c.in-Err-Failed.ensures.rest c.in-Err-Failed.ensures.hands c.put_writer-in-Err-Failed.ensures.rest c.put_writer-in-Err-Failed.ensures.workers c.put_writer-in-Err-Failed.ensures.put c.in_default.ensures.refused (sym c.needs_room.ensures ∙ c.if-not-needs_room.false) (λ e. let never : false ≡ true = (c.in-Err-Failed.ensures.none e).0 in absurd (cc)) (c.in-Err-Failed.ensures.lost (ap Err c.in-Err-Failed.field-0-is)) (c.in-Err-Failed.ensures.broken (ap Err c.in-Err-Failed.field-0-is)))
 
-pub returns-in-Ok-true : goal.returns-in-Ok-true
-returns-in-Ok-true g c = subst (λ q. StepsFrom g.O.Objects g.O.Reader.ObjectRead g.O.Writer.ObjectWrite c.args.self.now c.put_writer-in-Ok-true.new.self c.args.actor c.args.label c.args.writer (Event.Room c.args.label) q) (sym c.put_writer-in-Ok-true.ensures.reply) (after_opened g.O.Objects g.O.Reader.ObjectRead g.O.Writer.ObjectWrite c.args.self.now c.commit_block.new.self c.open_block.new.self c.put_writer-in-Ok-true.new.self c.args.label c.args.actor c.requires.actor c.args.writer c.open_block.new.writer c.in-Ok.ensures.rest c.in-Ok.ensures.hands c.in-Ok-true.ensures.rest c.in-Ok-true.ensures.hands c.put_writer-in-Ok-true.ensures.rest c.put_writer-in-Ok-true.ensures.workers c.put_writer-in-Ok-true.ensures.put c.in_default.ensures.refused (sym c.needs_room.ensures ∙ c.if-not-needs_room.false) c.in-Ok.ensures.done (λ e. (c.in-Ok.ensures.none e).1) c.commit_block.new.writer c.in-Ok.ensures.closed (c.in-Ok-true.ensures.space (ap Ok c.in-Ok-true.field-0-test)) (c.in-Ok-true.ensures.opened (ap Ok c.in-Ok-true.field-0-test)) (c.in-Ok-true.ensures.tells (ap Ok c.in-Ok-true.field-0-test)) (c.in-Ok-true.ensures.has (ap Ok c.in-Ok-true.field-0-test)))
+pub returns-in-Ok-true-clause-steps : goal.returns-in-Ok-true-clause-steps
+returns-in-Ok-true-clause-steps g c = subst (λ q. StepsFrom g.O.Objects g.O.Reader.ObjectRead g.O.Writer.ObjectWrite c.args.self.now c.put_writer-in-Ok-true.new.self c.args.actor c.args.label c.args.writer (Event.Room c.args.label) q) (sym c.put_writer-in-Ok-true.ensures.reply) (after_opened g.O.Objects g.O.Reader.ObjectRead g.O.Writer.ObjectWrite c.args.self.now c.commit_block.new.self c.open_block.new.self c.put_writer-in-Ok-true.new.self c.args.label c.args.actor c.requires.actor c.args.writer c.open_block.new.writer c.in-Ok.ensures.rest c.in-Ok.ensures.hands c.in-Ok-true.ensures.rest c.in-Ok-true.ensures.hands c.put_writer-in-Ok-true.ensures.rest c.put_writer-in-Ok-true.ensures.workers c.put_writer-in-Ok-true.ensures.put c.in_default.ensures.refused (sym c.needs_room.ensures ∙ c.if-not-needs_room.false) c.in-Ok.ensures.done (λ e. (c.in-Ok.ensures.none e).1) c.commit_block.new.writer c.in-Ok.ensures.closed (c.in-Ok-true.ensures.space (ap Ok c.in-Ok-true.field-0-test)) (c.in-Ok-true.ensures.opened (ap Ok c.in-Ok-true.field-0-test)) (c.in-Ok-true.ensures.tells (ap Ok c.in-Ok-true.field-0-test)) (c.in-Ok-true.ensures.has (ap Ok c.in-Ok-true.field-0-test)))
 
-pub returns-in-Ok-false : goal.returns-in-Ok-false
-returns-in-Ok-false g c = subst (λ q. StepsFrom g.O.Objects g.O.Reader.ObjectRead g.O.Writer.ObjectWrite c.args.self.now c.put_writer-in-Ok-false.new.self c.args.actor c.args.label c.args.writer (Event.Room c.args.label) q) (sym c.put_writer-in-Ok-false.ensures.reply) (after_full g.O.Objects g.O.Reader.ObjectRead g.O.Writer.ObjectWrite c.args.self.now c.commit_block.new.self c.open_block.new.self c.put_writer-in-Ok-false.new.self c.args.label c.args.actor c.requires.actor c.args.writer c.open_block.new.writer c.in-Ok.ensures.rest c.in-Ok.ensures.hands c.in-Ok-false.ensures.rest c.in-Ok-false.ensures.hands c.put_writer-in-Ok-false.ensures.rest c.put_writer-in-Ok-false.ensures.workers c.put_writer-in-Ok-false.ensures.put c.in_default.ensures.refused (sym c.needs_room.ensures ∙ c.if-not-needs_room.false) c.in-Ok.ensures.done (λ e. (c.in-Ok.ensures.none e).1) c.commit_block.new.writer c.in-Ok.ensures.closed (c.in-Ok-false.ensures.full (ap Ok c.in-Ok-false.field-0-test)))
+pub returns-in-Ok-false-clause-steps : goal.returns-in-Ok-false-clause-steps
+returns-in-Ok-false-clause-steps g c = subst (λ q. StepsFrom g.O.Objects g.O.Reader.ObjectRead g.O.Writer.ObjectWrite c.args.self.now c.put_writer-in-Ok-false.new.self c.args.actor c.args.label c.args.writer (Event.Room c.args.label) q) (sym c.put_writer-in-Ok-false.ensures.reply) (after_full g.O.Objects g.O.Reader.ObjectRead g.O.Writer.ObjectWrite c.args.self.now c.commit_block.new.self c.open_block.new.self c.put_writer-in-Ok-false.new.self c.args.label c.args.actor c.requires.actor c.args.writer c.open_block.new.writer c.in-Ok.ensures.rest c.in-Ok.ensures.hands c.in-Ok-false.ensures.rest c.in-Ok-false.ensures.hands c.put_writer-in-Ok-false.ensures.rest c.put_writer-in-Ok-false.ensures.workers c.put_writer-in-Ok-false.ensures.put c.in_default.ensures.refused (sym c.needs_room.ensures ∙ c.if-not-needs_room.false) c.in-Ok.ensures.done (λ e. (c.in-Ok.ensures.none e).1) c.commit_block.new.writer c.in-Ok.ensures.closed (c.in-Ok-false.ensures.full (ap Ok c.in-Ok-false.field-0-test)))
 
-pub returns-in-Err-Memory-open_block : goal.returns-in-Err-Memory-open_block
-returns-in-Err-Memory-open_block g c = subst (λ q. StepsFrom g.O.Objects g.O.Reader.ObjectRead g.O.Writer.ObjectWrite c.args.self.now c.put_writer-in-Err-Memory-open_block.new.self c.args.actor c.args.label c.args.writer (Event.Room c.args.label) q) (sym c.put_writer-in-Err-Memory-open_block.ensures.reply) (after_closed g.O.Objects g.O.Reader.ObjectRead g.O.Writer.ObjectWrite c.args.self.now c.commit_block.new.self c.open_block.new.self c.put_writer-in-Err-Memory-open_block.new.self c.args.label c.args.actor c.requires.actor c.args.writer c.open_block.new.writer c.in-Ok.ensures.rest c.in-Ok.ensures.hands c.in-Err-Memory-open_block.ensures.rest c.in-Err-Memory-open_block.ensures.hands c.put_writer-in-Err-Memory-open_block.ensures.rest c.put_writer-in-Err-Memory-open_block.ensures.workers c.put_writer-in-Err-Memory-open_block.ensures.put c.in_default.ensures.refused (sym c.needs_room.ensures ∙ c.if-not-needs_room.false) c.in-Ok.ensures.done (λ e. (c.in-Ok.ensures.none e).1) c.commit_block.new.writer c.in-Ok.ensures.closed (c.in-Err-Memory-open_block.ensures.memory (ap Err c.in-Err-Memory-open_block.field-0-is)) c.in-Err-Memory-open_block.ensures.err)
+pub returns-in-Err-Memory-open_block-clause-steps : goal.returns-in-Err-Memory-open_block-clause-steps
+returns-in-Err-Memory-open_block-clause-steps g c = subst (λ q. StepsFrom g.O.Objects g.O.Reader.ObjectRead g.O.Writer.ObjectWrite c.args.self.now c.put_writer-in-Err-Memory-open_block.new.self c.args.actor c.args.label c.args.writer (Event.Room c.args.label) q) (sym c.put_writer-in-Err-Memory-open_block.ensures.reply) (after_closed g.O.Objects g.O.Reader.ObjectRead g.O.Writer.ObjectWrite c.args.self.now c.commit_block.new.self c.open_block.new.self c.put_writer-in-Err-Memory-open_block.new.self c.args.label c.args.actor c.requires.actor c.args.writer c.open_block.new.writer c.in-Ok.ensures.rest c.in-Ok.ensures.hands c.in-Err-Memory-open_block.ensures.rest c.in-Err-Memory-open_block.ensures.hands c.put_writer-in-Err-Memory-open_block.ensures.rest c.put_writer-in-Err-Memory-open_block.ensures.workers c.put_writer-in-Err-Memory-open_block.ensures.put c.in_default.ensures.refused (sym c.needs_room.ensures ∙ c.if-not-needs_room.false) c.in-Ok.ensures.done (λ e. (c.in-Ok.ensures.none e).1) c.commit_block.new.writer c.in-Ok.ensures.closed (c.in-Err-Memory-open_block.ensures.memory (ap Err c.in-Err-Memory-open_block.field-0-is)) c.in-Err-Memory-open_block.ensures.err)
 
-pub returns-in-Err-Failed-open_block : goal.returns-in-Err-Failed-open_block
-returns-in-Err-Failed-open_block g c = subst (λ q. StepsFrom g.O.Objects g.O.Reader.ObjectRead g.O.Writer.ObjectWrite c.args.self.now c.put_writer-in-Err-Failed-open_block.new.self c.args.actor c.args.label c.args.writer (Event.Room c.args.label) q) (sym c.put_writer-in-Err-Failed-open_block.ensures.reply) (after_failed g.O.Objects g.O.Reader.ObjectRead g.O.Writer.ObjectWrite c.args.self.now c.commit_block.new.self c.open_block.new.self c.put_writer-in-Err-Failed-open_block.new.self c.args.label c.args.actor c.requires.actor c.args.writer (record c.open_block.new.writer { broken = true }) c.in-Ok.ensures.rest c.in-Ok.ensures.hands c.in-Err-Failed-open_block.ensures.rest c.in-Err-Failed-open_block.ensures.hands c.put_writer-in-Err-Failed-open_block.ensures.rest c.put_writer-in-Err-Failed-open_block.ensures.workers c.put_writer-in-Err-Failed-open_block.ensures.put c.in_default.ensures.refused (sym c.needs_room.ensures ∙ c.if-not-needs_room.false) c.in-Ok.ensures.done (λ e. (c.in-Ok.ensures.none e).1) c.commit_block.new.writer c.in-Ok.ensures.closed (c.in-Err-Failed-open_block.ensures.failed (ap Err c.in-Err-Failed-open_block.field-0-is)) c.open_block.new.writer c.in-Err-Failed-open_block.ensures.err refl)
+pub returns-in-Err-Failed-open_block-clause-steps : goal.returns-in-Err-Failed-open_block-clause-steps
+returns-in-Err-Failed-open_block-clause-steps g c = subst (λ q. StepsFrom g.O.Objects g.O.Reader.ObjectRead g.O.Writer.ObjectWrite c.args.self.now c.put_writer-in-Err-Failed-open_block.new.self c.args.actor c.args.label c.args.writer (Event.Room c.args.label) q) (sym c.put_writer-in-Err-Failed-open_block.ensures.reply) (after_failed g.O.Objects g.O.Reader.ObjectRead g.O.Writer.ObjectWrite c.args.self.now c.commit_block.new.self c.open_block.new.self c.put_writer-in-Err-Failed-open_block.new.self c.args.label c.args.actor c.requires.actor c.args.writer (record c.open_block.new.writer { broken = true }) c.in-Ok.ensures.rest c.in-Ok.ensures.hands c.in-Err-Failed-open_block.ensures.rest c.in-Err-Failed-open_block.ensures.hands c.put_writer-in-Err-Failed-open_block.ensures.rest c.put_writer-in-Err-Failed-open_block.ensures.workers c.put_writer-in-Err-Failed-open_block.ensures.put c.in_default.ensures.refused (sym c.needs_room.ensures ∙ c.if-not-needs_room.false) c.in-Ok.ensures.done (λ e. (c.in-Ok.ensures.none e).1) c.commit_block.new.writer c.in-Ok.ensures.closed (c.in-Err-Failed-open_block.ensures.failed (ap Err c.in-Err-Failed-open_block.field-0-is)) c.open_block.new.writer c.in-Err-Failed-open_block.ensures.err refl)
+
+pub returns-in-Some-clause-media : goal.returns-in-Some-clause-media
+returns-in-Some-clause-media g c = media_kept g.O.Objects c.put_writer.ensures.rest c.put_writer.ensures.workers
+
+pub returns-then-not-needs_room-clause-media : goal.returns-then-not-needs_room-clause-media
+returns-then-not-needs_room-clause-media g c = media_kept g.O.Objects c.put_writer-then-not-needs_room.ensures.rest c.put_writer-then-not-needs_room.ensures.workers
+
+pub returns-in-Err-Memory-clause-media : goal.returns-in-Err-Memory-clause-media
+returns-in-Err-Memory-clause-media g c = media_then g.O.Objects c.in-Err-Memory.ensures.media (media_kept g.O.Objects c.put_writer-in-Err-Memory.ensures.rest c.put_writer-in-Err-Memory.ensures.workers)
+
+pub returns-in-Err-Failed-clause-media : goal.returns-in-Err-Failed-clause-media
+returns-in-Err-Failed-clause-media g c = media_then g.O.Objects c.in-Err-Failed.ensures.media (media_kept g.O.Objects c.put_writer-in-Err-Failed.ensures.rest c.put_writer-in-Err-Failed.ensures.workers)
+
+pub returns-in-Ok-true-clause-media : goal.returns-in-Ok-true-clause-media
+returns-in-Ok-true-clause-media g c = media_then g.O.Objects c.in-Ok.ensures.media (media_then g.O.Objects (media_opened g.O.Objects (pred c.commit_block.new.writer.worker) c.commit_block.new.writer.bytes.bs c.open_block.new.writer.room c.in-Ok-true.ensures.rest (c.in-Ok-true.ensures.space (ap Ok c.in-Ok-true.field-0-test))) (media_kept g.O.Objects c.put_writer-in-Ok-true.ensures.rest c.put_writer-in-Ok-true.ensures.workers))
+
+pub returns-in-Ok-false-clause-media : goal.returns-in-Ok-false-clause-media
+returns-in-Ok-false-clause-media g c = media_then g.O.Objects c.in-Ok.ensures.media (media_then g.O.Objects (media_full g.O.Objects c.commit_block.new.writer.bytes.bs c.in-Ok-false.ensures.rest (c.in-Ok-false.ensures.full (ap Ok c.in-Ok-false.field-0-test))) (media_kept g.O.Objects c.put_writer-in-Ok-false.ensures.rest c.put_writer-in-Ok-false.ensures.workers))
+
+pub returns-in-Err-Memory-open_block-clause-media : goal.returns-in-Err-Memory-open_block-clause-media
+returns-in-Err-Memory-open_block-clause-media g c = media_then g.O.Objects c.in-Ok.ensures.media (media_then g.O.Objects (media_short g.O.Objects (pred c.commit_block.new.writer.worker) c.commit_block.new.writer.bytes.bs c.in-Err-Memory-open_block.ensures.rest (c.in-Err-Memory-open_block.ensures.memory (ap Err c.in-Err-Memory-open_block.field-0-is))) (media_kept g.O.Objects c.put_writer-in-Err-Memory-open_block.ensures.rest c.put_writer-in-Err-Memory-open_block.ensures.workers))
+
+pub returns-in-Err-Failed-open_block-clause-media : goal.returns-in-Err-Failed-open_block-clause-media
+returns-in-Err-Failed-open_block-clause-media g c = media_then g.O.Objects c.in-Ok.ensures.media (media_then g.O.Objects (media_failed g.O.Objects c.commit_block.new.writer.bytes.bs c.in-Err-Failed-open_block.ensures.rest (c.in-Err-Failed-open_block.ensures.failed (ap Err c.in-Err-Failed-open_block.field-0-is))) (media_kept g.O.Objects c.put_writer-in-Err-Failed-open_block.ensures.rest c.put_writer-in-Err-Failed-open_block.ensures.workers))
