@@ -3,6 +3,7 @@ pub mod LabelSlots
 pub mod Hands
 pub mod NamesView
 pub mod Media
+pub mod Causes
 pub mod Names
 pub mod NamesStand
 pub mod Tests

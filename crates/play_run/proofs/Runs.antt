@@ -16,6 +16,7 @@ use Rattle.outside.proofs.Known.{Takes-nil, Takes-trans}
 use Rattle.script_text.specs.declared.script.Command.{Command}
 use Rattle.script_text.specs.LineText.{line_text, lines_text}
 use Rattle.cluster_core.specs.Goes.{Goes, Rises}
+use Rattle.cluster_core.specs.Media.{MediaStays}
 use Rattle.cluster_core.specs.Stands.{Stands}
 use Rattle.cluster_core.specs.declared.cluster.Core.{Core}
 use Rattle.play_run.specs.Play.{Says, Played, Acts, RiseAlong, Ran, Tells, TellsFront, TellsPartly}
@@ -62,11 +63,11 @@ next_command cs i c lt at = ap (λ (x : Command). take i cs ++ x ∷ []) at ∙ 
 -- ---- runs
 
 module _ {S R W : Type 0} (o : objects.Ghosts S R W) (r : reads.Ghosts R) (w : writes.Ghosts W) (U : Setup) where
-  rise_more : (ls : List Line) (seen : List Observation) (l : Line) (x : Observation) (old mid new : Core S R W w) → RiseAlong o r w old ls seen mid → Rises o r w mid new l.actor x.rise → RiseAlong o r w old (ls ++ l ∷ []) (seen ++ x ∷ []) new
-  rise_more [] [] l x old mid new along h = (new, subst (λ (y : Core S R W w). Rises o r w y new l.actor x.rise) along h, refl)
-  rise_more (m ∷ ls) (y ∷ ys) l x old mid new along h = (along.0, along.1, rise_more ls ys l x along.0 mid new along.2 h)
-  rise_more [] (y ∷ ys) l x old mid new along h = absurd along
-  rise_more (m ∷ ls) [] l x old mid new along h = absurd along
+  rise_more : (ls : List Line) (seen : List Observation) (l : Line) (x : Observation) (old mid new : Core S R W w) → RiseAlong o r w old ls seen mid → Rises o r w mid new l.actor x.rise → MediaStays o mid new → RiseAlong o r w old (ls ++ l ∷ []) (seen ++ x ∷ []) new
+  rise_more [] [] l x old mid new along h stays = (new, subst (λ (y : Core S R W w). Rises o r w y new l.actor x.rise) along h, subst (λ (y : Core S R W w). MediaStays o y new) along stays, refl)
+  rise_more (m ∷ ls) (y ∷ ys) l x old mid new along h stays = (along.0, along.1, along.2, rise_more ls ys l x along.0 mid new along.3 h stays)
+  rise_more [] (y ∷ ys) l x old mid new along h stays = absurd along
+  rise_more (m ∷ ls) [] l x old mid new along h stays = absurd along
 
   ran_nothing : (V : Whole) (core : Core S R W w) → Stands o r w U core V → Ran o r w U [] V core [] core
   ran_nothing V core stands = record { played = tt; after = V; seen = []; run = refl; rose = refl; stands = stands }
@@ -81,7 +82,7 @@ module _ {S R W : Type 0} (o : objects.Ghosts S R W) (r : reads.Ghosts R) (w : w
         after = goes.after;
         seen = ran.seen ++ x ∷ [];
         run = run_more U ls ran.seen l x V ran.after goes.after ran.run goes.step;
-        rose = rise_more ls ran.seen l x old mid new ran.rose goes.rises;
+        rose = rise_more ls ran.seen l x old mid new ran.rose goes.rises acts.media;
         stands = goes.stands;
       }
 

@@ -13,6 +13,7 @@ use Rattle.script_text.specs.declared.script.Command.{Command}
 use Rattle.script_text.specs.declared.script.Verb.{Verb}
 use Rattle.script_text.specs.LineText.{lines_text}
 use Rattle.cluster_core.specs.Goes.{Rises, Steps}
+use Rattle.cluster_core.specs.Media.{MediaStays}
 use Rattle.cluster_core.specs.Stands.{Stands}
 use Rattle.cluster_core.specs.declared.cluster.Core.{Core}
 
@@ -35,13 +36,14 @@ module _ {S R W : Type 0} (o : objects.Ghosts S R W) (r : reads.Ghosts R) (w : w
   pub record Acts (command : Command) (line : Line) (old new : Core S R W w) : Type 0 where
     pub says : Says command line
     pub steps : Steps o r w old new line.actor line.event line.reply
+    pub media : MediaStays o old new
 
   -- ---- runs
 
-  -- there are cores from one line to the next, between which the counts rose as observed
+  -- there are cores from one line to the next, between which the counts rose as observed, and no tier's count fell
   abbrev pub RiseAlong : Core S R W w → List Line → List Observation → Core S R W w → Type 0
   RiseAlong old [] [] new = new ≡ old
-  RiseAlong old (line ∷ lines) (seen ∷ more) new = (mid : Core S R W w) × Rises o r w old mid line.actor seen.rise × RiseAlong mid lines more new
+  RiseAlong old (line ∷ lines) (seen ∷ more) new = (mid : Core S R W w) × Rises o r w old mid line.actor seen.rise × MediaStays o old mid × RiseAlong mid lines more new
   RiseAlong old [] (seen ∷ more) new = ⊥
   RiseAlong old (line ∷ lines) [] new = ⊥
 

@@ -1,7 +1,8 @@
-use Rattle.std.proofs.Common.{◌≡◌, ◌+◌, take, true, sym, arith, subst, ◌∙◌}
+use Rattle.std.proofs.Common.{◌≡◌, ◌+◌, take, true, refl, sym, arith, subst, ◌∙◌}
 use Rattle.std.proofs.lemmas.Result.{err_from_is_err_and}
 use Rattle.std.specs.List.{list_all}
 use Rattle.script_text.specs.Commands.{is_command}
+use Rattle.cluster_core.proofs.MediaStay.{media_same, media_then}
 use Rattle.play_run.specs.Play.{Tells, TellsFront, TellsPartly}
 use Rattle.play_run.proofs.Runs.{all_there, begins, goes_on, in_front, next_command, partly, take_all, untold}
 use Rattle.play_run.proofs.play.play_over.Goals as goal
@@ -9,6 +10,7 @@ use Rattle.play_run.proofs.play.play_over.Goals as goal
 pub loop-command-init : goal.loop-command-init
 loop-command-init g c = record {
   told = λ U V stands. begins g.O.Objects g.O.Reader.ObjectRead g.O.Writer.ObjectWrite U V c.args.core.now _ stands;
+  media = media_same g.O.Objects refl refl;
   later = omega arith;
 }
 
@@ -45,8 +47,15 @@ loop-command-preserved g c =
     let front = next_command items c.loop-command.command-index c.command-item.result c.loop-command-test.true c.command-item.is in
     record {
       told = λ U V stands. goes_on g.O.Objects g.O.Reader.ObjectRead g.O.Writer.ObjectWrite U items c.loop-command.command-index V c.args.core.now c.loop-command.core _ _ (c.loop-command.invariant.told U V stands) c.command-item.result c.in_ok-line.line c.act.new.core front c.in_ok-line.ensures.ok _ c.in_ok-tell.ensures.ok;
+      media = media_then g.O.Objects c.loop-command.invariant.media c.act.ensures.media;
       later = omega (arith, c.loop-command.invariant.later, c.in_ok-tell.ensures.later);
     }
 
 pub returns-clause-ok : goal.returns-clause-ok
 returns-clause-ok g c = λ U V stands. subst (λ cs. Tells g.O.Objects g.O.Reader.ObjectRead g.O.Writer.ObjectWrite U cs V c.args.core.now c.loop-command.core (g.S.Sink.taken c.args.sink.now) (g.S.Sink.taken c.loop-command.sink)) (take_all c.commands-command-items.result.now c.loop-command.command-index (λ lt. omega (arith, lt, c.loop-command-test.false)) ∙ c.commands-command-items.ensures) (c.loop-command.invariant.told U V stands)
+
+pub returns-in_err-line-clause-media : goal.returns-in_err-line-clause-media
+returns-in_err-line-clause-media g c = media_then g.O.Objects c.loop-command.invariant.media c.act.ensures.media
+
+pub returns-in_err-tell-clause-media : goal.returns-in_err-tell-clause-media
+returns-in_err-tell-clause-media g c = media_then g.O.Objects c.loop-command.invariant.media c.act.ensures.media
