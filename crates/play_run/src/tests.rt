@@ -4,7 +4,9 @@ ghost use Rattle.std.specs.Prelude.{◌≡◌, ◌∷◌, ◌≤◌, [], true, I
 ghost use Rattle.fs_model.specs.Spelled.{is_setup};
 ghost use Rattle.cluster_core.specs.Begun.{tier_counts};
 
+mod refusals;
 mod scripts;
+mod space;
 
 use crate::play::play;
 use fs_model::items::Items;
