@@ -4,9 +4,12 @@ ghost use Rattle.std.specs.Prelude.{◌≡◌, ◌∷◌, ◌≤◌, [], true, I
 ghost use Rattle.fs_model.specs.Spelled.{is_setup};
 ghost use Rattle.cluster_core.specs.Begun.{tier_counts};
 
+mod failing;
+mod reading;
 mod refusals;
 mod scripts;
 mod space;
+mod writing;
 
 use crate::play::play;
 use fs_model::items::Items;
