@@ -8,6 +8,7 @@ mod failing;
 mod reading;
 mod refusals;
 mod scripts;
+mod sinks;
 mod space;
 mod writing;
 
