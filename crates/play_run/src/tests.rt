@@ -5,6 +5,7 @@ ghost use Rattle.fs_model.specs.Spelled.{is_setup};
 ghost use Rattle.cluster_core.specs.Begun.{tier_counts};
 
 mod failing;
+mod memory;
 mod reading;
 mod refusals;
 mod scripts;
@@ -18,7 +19,7 @@ use fs_model::setup::Setup;
 use fs_model::stop::Stop;
 use outside::media::Media;
 use outside::memory::{MemObjects, MemSink};
-use script_text::read::read_script;
+use script_text::read::{ScriptFault, read_script};
 use std::alloc::{AllocError, Global};
 use std::test::Fail;
 
@@ -89,13 +90,14 @@ struct Outcome {
 }
 
 /// Plays a script over that configuration with areas of so many bytes, with this first tier of worker 1, to this sink.
+/// An `Err` came before the play.
 fn played(
     alloc: Global,
     area: u64,
     script: &[u8],
     first: MemObjects,
     mut sink: MemSink,
-) -> Result<Outcome, Fail>
+) -> Result<Outcome, ScriptFault>
     requires least { 64 ≤ area }
     requires most { area ≤ 1073741824 }
 {
@@ -106,12 +108,19 @@ fn played(
     Ok(Outcome { end, sink, media })
 }
 
-/// The script of lines: each without its reply.
-fn script_of(alloc: Global, lines: &str) -> Result<Vec<u8>, Fail> {
+/// A line without its reply.
+fn event_in(line: &str) -> &str {
+    match line.split_once(" -> ") {
+        None => line,
+        Some((event, _)) => event,
+    }
+}
+
+/// The script of lines: each without its reply. An `Err` is want of memory.
+fn script_of(alloc: Global, lines: &str) -> Result<Vec<u8>, AllocError> {
     let mut script = Vec::new(alloc);
     for line in lines.lines() {
-        let (event, _) = line.split_once(" -> ").ok_or("a line without a reply")?;
-        script.extend_from_slice(event.as_bytes())?;
+        script.extend_from_slice(event_in(line).as_bytes())?;
         script.push(b'\n')?;
     }
     Ok(script)

@@ -6,6 +6,7 @@ use super::{AREA, Outcome, played, script_of};
 use fs_model::stop::Stop;
 use outside::media::Media;
 use outside::memory::{Failing, MemObject, MemObjects, MemSink};
+use script_text::read::ScriptFault;
 use std::alloc::{AllocError, Global};
 use std::test::Fail;
 
@@ -18,7 +19,7 @@ fn sink(alloc: Global, push: u64, greatest: usize) -> Result<MemSink, AllocError
 }
 
 /// What the script of these lines leaves at this sink.
-fn left_at(alloc: Global, lines: &str, sink: MemSink) -> Result<Outcome, Fail> {
+fn left_at(alloc: Global, lines: &str, sink: MemSink) -> Result<Outcome, ScriptFault> {
     let script = script_of(alloc, lines)?;
     played(alloc, AREA, &script, MemObjects::new(alloc), sink)
 }
