@@ -126,6 +126,14 @@ fn script_of(alloc: Global, lines: &str) -> Result<Vec<u8>, AllocError> {
     Ok(script)
 }
 
+/// What a play that went on to the end told.
+fn text_in(outcome: Outcome) -> Result<String, Fail> {
+    let Outcome { end, sink, .. } = outcome;
+    end.map_err(|_| "the play stopped")?;
+    let MemSink { bytes, .. } = sink;
+    Ok(String::from_utf8(bytes)?)
+}
+
 /// What is told where the script of these lines is played with areas of so many bytes, with this first tier of worker
 /// 1: the lines themselves, where they are right.
 fn told(alloc: Global, area: u64, lines: &str, first: MemObjects) -> Result<String, Fail>
@@ -133,9 +141,7 @@ fn told(alloc: Global, area: u64, lines: &str, first: MemObjects) -> Result<Stri
     requires most { area ≤ 1073741824 }
 {
     let script = script_of(alloc, lines)?;
-    let outcome = played(alloc, area, &script, first, MemSink::new(alloc))?;
-    outcome.end.map_err(|_| "the play stopped")?;
-    Ok(String::from_utf8(outcome.sink.bytes)?)
+    text_in(played(alloc, area, &script, first, MemSink::new(alloc))?)
 }
 
 /// The same over tiers of which no call fails, with areas that have room for all.

@@ -1,6 +1,6 @@
 //! Tiers of which a call fails, or a poll isn't ready.
 
-use super::{AREA, Outcome, played, script_of};
+use super::{AREA, Outcome, played, script_of, text_in};
 use outside::media::Media;
 use outside::memory::{ByNumber, Failing, MemObjects, MemSink};
 use std::alloc::{AllocError, Global};
@@ -77,15 +77,19 @@ pub(super) fn first_tier(media: &Media<MemObjects>) -> Option<&MemObjects> {
     media.tiers.first()?.first()
 }
 
-/// What was told, and what the first tier counted.
-fn seen_in(outcome: Outcome) -> Result<Seen, Fail> {
-    outcome.end.map_err(|_| "the play stopped")?;
-    let (faults, objects) = match first_tier(&outcome.media) {
+/// How many calls of the first tier failed, and how many objects it holds.
+fn counts_in(media: &Media<MemObjects>) -> (u64, usize) {
+    match first_tier(media) {
         None => (0, 0),
         Some(tier) => (tier.faults, tier.objects.len()),
-    };
+    }
+}
+
+/// What was told, and what the first tier counted.
+fn seen_in(outcome: Outcome) -> Result<Seen, Fail> {
+    let (faults, objects) = counts_in(&outcome.media);
     Ok(Seen {
-        text: String::from_utf8(outcome.sink.bytes)?,
+        text: text_in(outcome)?,
         faults,
         objects,
     })
