@@ -1,6 +1,7 @@
 -- How a run ends: its status, its last line, and what each end says.
 use Rattle.std.specs.Prelude.{ℕ, ◌≡◌, ◌⊎◌, ◌<◌, length, nat_lt, take, ⊤, List, [], ◌∷◌, ◌++◌, codes, IsSomeAnd, IsTrue, Result, Ok, Err, Option, Some, None, if◌then◌else◌}
 use Rattle.std.specs.Fmt.{decimal}
+use Rattle.fs_model.specs.declared.setup.Setup.{Setup}
 use Rattle.fs_model.specs.State.{Whole}
 use Rattle.fs_model.specs.declared.stop.Stop.{Stop}
 use Rattle.fs_model.specs.Begins.{Begins}
@@ -138,10 +139,10 @@ module _ {S R W : Type 0} (o : objects.Ghosts S R W) (r : reads.Ghosts R) (w : w
     pub each : EachNamed (TellsHeld o.told shelf) media_names media
 
   -- media that were lent were given back as a play left them, to a world that holds this then; whatever state the play began with, P holds from the core at its beginning to the one at its end
-  pub record GivesBack (shelf : Option Shelf) (P : Whole → Core S R W w → Core S R W w → Type 0) (lent : Media S) : Type 0 where
+  pub record GivesBack (U : Setup) (shelf : Option Shelf) (P : Whole → Core S R W w → Core S R W w → Type 0) (lent : Media S) : Type 0 where
     pub back : Media S
     pub held : IsHeld shelf back
-    pub lines : (V : Whole) → Begins two_workers V → TiersEmpty o lent → Between o r w lent back (P V)
+    pub lines : (V : Whole) → Begins U V → TiersEmpty o lent → Between o r w lent back (P V)
 
 -- from here on: what the world holds of stores and tiers before and after
 module _ {S R W : Type 0} (o : objects.Ghosts S R W) (r : reads.Ghosts R) (w : writes.Ghosts W) (old new : Option Shelf) where
@@ -151,7 +152,7 @@ module _ {S R W : Type 0} (o : objects.Ghosts S R W) (r : reads.Ghosts R) (w : w
     pub script : is_script commands
     pub lent : Media S
     pub held : IsHeld o r w old lent
-    pub played : GivesBack o r w new (P commands) lent
+    pub played : GivesBack o r w two_workers new (P commands) lent
 
   -- they were played to their end
   abbrev pub Plays : (List Command → Type 0) → Option (List ℕ) → Option (List ℕ) → Type 0

@@ -1,5 +1,5 @@
-use Rattle.std.proofs.Common.{◌∙◌, sym, inl, inr, subst}
-use Rattle.node_main.specs.Ends.{media_names}
+use Rattle.std.proofs.Common.{◌∙◌, sym, ap, inl, inr, subst}
+use Rattle.node_main.specs.Ends.{IsHeld, media_names}
 use Rattle.node_main.proofs.Playing.{at_some, on_ok, stop_memory, stop_write}
 use Rattle.node_main.proofs.run.play_lent.Goals as goal
 
@@ -20,4 +20,10 @@ returns-in-Err-clause-partly g c = λ h.
     })
 
 pub returns-in-Err-clause-memory : goal.returns-in-Err-clause-memory
-returns-in-Err-clause-memory g c = λ h. ?
+returns-in-Err-clause-memory g c = λ h.
+    let stop = stop_memory c.in-Err.stop (sym c.end_of_stop.ensures ∙ h) in
+    let told = at_some _ media_names _ (c.play_out-played.ensures.lent ∙ c.requires.lent) c.give_back.ensures.told in
+    rw c.give_back.ensures.output (elim (c.play_out-played.ensures.memory (rw stop at c.in-Err.is)) [
+      | inl same ↦ inl (ap (λ out. g.W.Out.Sink.taken out) same.1, subst (λ m. IsHeld g.W.Store.Objects g.W.Store.Reader.ObjectRead g.W.Store.Writer.ObjectWrite (g.W.World.shelf c.give_back.new.self) m) same.0 (record { shape = c.play_out-played.ensures.shape; each = told }))
+      | inr front ↦ inr (record { back = c.play_out-played.result.1; held = record { shape = c.play_out-played.ensures.shape; each = told }; lines = front })
+    ])

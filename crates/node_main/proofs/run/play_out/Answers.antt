@@ -1,12 +1,10 @@
-use Rattle.std.proofs.Common.{◌≡◌, subst, Result, Ok, Err, OnOk, sym, refl, inl, inr}
 use Rattle.node_main.proofs.run.play_out.Goals as goal
 
 pub returns-clause-done : goal.returns-clause-done
-returns-clause-done g c =
-    let out : g.W.World.output (g.W.World.with_output c.args.world.now c.play.new.sink) ≡ c.play.new.sink = search in
-    rw out (rw c.requires.setup at c.play.ensures.ok)
+returns-clause-done g c = rw (g.met.W.World.output_set c.args.world.now c.play.new.sink) (rw c.out.ensures.value at c.play.ensures.ok)
 
 pub returns-clause-partly : goal.returns-clause-partly
-returns-clause-partly g c = λ h.
-    let out : g.W.World.output (g.W.World.with_output c.args.world.now c.play.new.sink) ≡ c.play.new.sink = search in
-    rw out (rw c.requires.setup at c.play.ensures.write h)
+returns-clause-partly g c = λ h. rw (g.met.W.World.output_set c.args.world.now c.play.new.sink) (rw c.out.ensures.value at c.play.ensures.write h)
+
+pub returns-clause-memory : goal.returns-clause-memory
+returns-clause-memory g c = λ h. rw (g.met.W.World.output_set c.args.world.now c.play.new.sink) (rw c.out.ensures.value at c.play.ensures.memory h)

@@ -1,5 +1,35 @@
-use Rattle.std.proofs.Common.{refl, inl, inr}
+use Rattle.std.proofs.Common.{refl, ap, ◌∙◌, inl, inr}
 use Rattle.node_main.proofs.run.play_script.Goals as goal
 
 pub returns-in-Ok-assemble-clause-done : goal.returns-in-Ok-assemble-clause-done
-returns-in-Ok-assemble-clause-done g c = λ h. ?
+returns-in-Ok-assemble-clause-done g c = λ h. record {
+  commands = c.args.script.now;
+  script = refl;
+  lent = c.in-Ok-assemble.media;
+  held = record { shape = rw c.in-Ok.ensures.names at c.in-Ok-assemble.ensures.shape; each = rw c.in-Ok.ensures.names at c.in-Ok-assemble.ensures.told };
+  played = rw (c.in-Ok.ensures.setup, c.assemble.ensures.output) at c.play_lent.ensures.done h;
+}
+
+pub returns-in-Ok-assemble-clause-partly : goal.returns-in-Ok-assemble-clause-partly
+returns-in-Ok-assemble-clause-partly g c = λ h. record {
+  commands = c.args.script.now;
+  script = refl;
+  lent = c.in-Ok-assemble.media;
+  held = record { shape = rw c.in-Ok.ensures.names at c.in-Ok-assemble.ensures.shape; each = rw c.in-Ok.ensures.names at c.in-Ok-assemble.ensures.told };
+  played = rw (c.in-Ok.ensures.setup, c.assemble.ensures.output) at c.play_lent.ensures.partly h;
+}
+
+pub returns-in-Ok-assemble-clause-memory : goal.returns-in-Ok-assemble-clause-memory
+returns-in-Ok-assemble-clause-memory g c = λ h.
+    let shape = rw c.in-Ok.ensures.names at c.in-Ok-assemble.ensures.shape in
+    let told = rw c.in-Ok.ensures.names at c.in-Ok-assemble.ensures.told in
+    elim (c.play_lent.ensures.memory h) [
+      | inl same ↦ inl (same.0 ∙ ap (λ out. g.W.Out.Sink.taken out) c.assemble.ensures.output, inr (c.in-Ok-assemble.media, record { shape = shape; each = told }, same.1))
+      | inr front ↦ inr (record {
+          commands = c.args.script.now;
+          script = refl;
+          lent = c.in-Ok-assemble.media;
+          held = record { shape = shape; each = told };
+          played = rw (c.in-Ok.ensures.setup, c.assemble.ensures.output) at front;
+        })
+    ]
