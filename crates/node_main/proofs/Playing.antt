@@ -1,5 +1,5 @@
 -- What a script's play says of the run that it belongs to.
-use Rattle.std.proofs.Common.{◌≡◌, ℕ, List, Option, Some, None, Result, Ok, Err, ◌⊎◌, inl, inr, refl, sym, ◌∙◌, ap, subst}
+use Rattle.std.proofs.Common.{◌≡◌, ℕ, List, Option, Some, None, Result, Ok, Err, ◌⊎◌, inl, inr, refl, sym, subst}
 use Rattle.std.specs.Prelude.{IsSomeAnd, IfSome, OnOk}
 use Rattle.fs_model.specs.State.{Whole}
 use Rattle.fs_model.specs.declared.stop.Stop.{Stop}
@@ -15,7 +15,7 @@ use Rattle.script_text.specs.ScriptText.{read_script}
 use Rattle.cluster_core.specs.declared.cluster.Core.{Core}
 use Rattle.node_main.specs.declared.run.End.{End}
 use Rattle.node_main.specs.declared.run.End.TheVariants as ends
-use Rattle.node_main.specs.Ends.{Attempted, Held, Holds, IsBadAt, IsScript, IsUntouched, Plays, PlaysFront, PlaysPartly, PlaysSo, end_of_reading, end_of_stop}
+use Rattle.node_main.specs.Ends.{Attempted, Held, Holds, IsScript, IsUntouched, Plays, PlaysFront, PlaysPartly, PlaysSo, end_of_reading, end_of_stop}
 use Rattle.node_main.specs.Words.{play_words}
 
 -- ---- what is held

@@ -5,10 +5,10 @@ use Rattle.node_main.proofs.run.play_lent.Goals as goal
 
 pub returns-in-Ok-clause-done : goal.returns-in-Ok-clause-done
 returns-in-Ok-clause-done g c = λ _. rw c.give_back.ensures.output (record {
-    back = c.play_out-played.result.1;
-    held = record { shape = c.play_out-played.ensures.shape; each = at_some _ media_names _ (c.play_out-played.ensures.lent ∙ c.requires.lent) c.give_back.ensures.told };
-    lines = on_ok c.play_out-played.result.0 _ _ c.in-Ok.is c.play_out-played.ensures.done;
-  })
+  back = c.play_out-played.result.1;
+  held = record { shape = c.play_out-played.ensures.shape; each = at_some _ media_names _ (c.play_out-played.ensures.lent ∙ c.requires.lent) c.give_back.ensures.told };
+  lines = on_ok c.play_out-played.result.0 _ _ c.in-Ok.is c.play_out-played.ensures.done;
+})
 
 pub returns-in-Err-clause-partly : goal.returns-in-Err-clause-partly
 returns-in-Err-clause-partly g c = λ h.

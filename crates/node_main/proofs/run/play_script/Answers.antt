@@ -26,10 +26,10 @@ returns-in-Ok-assemble-clause-memory g c = λ h.
     elim (c.play_lent.ensures.memory h) [
       | inl same ↦ inl (same.0 ∙ ap (λ out. g.W.Out.Sink.taken out) c.assemble.ensures.output, inr (c.in-Ok-assemble.media, record { shape = shape; each = told }, same.1))
       | inr front ↦ inr (record {
-          commands = c.args.script.now;
-          script = refl;
-          lent = c.in-Ok-assemble.media;
-          held = record { shape = shape; each = told };
-          played = rw (c.in-Ok.ensures.setup, c.assemble.ensures.output) at front;
-        })
+        commands = c.args.script.now;
+        script = refl;
+        lent = c.in-Ok-assemble.media;
+        held = record { shape = shape; each = told };
+        played = rw (c.in-Ok.ensures.setup, c.assemble.ensures.output) at front;
+      })
     ]
