@@ -19,7 +19,9 @@ use Rattle.cluster_core.specs.Goes.{Goes, Rises}
 use Rattle.cluster_core.specs.Media.{MediaStays}
 use Rattle.cluster_core.specs.Stands.{Stands}
 use Rattle.cluster_core.specs.declared.cluster.Core.{Core}
-use Rattle.play_run.specs.Play.{Says, Played, Acts, RiseAlong, Ran, Tells, TellsFront, TellsPartly}
+use Rattle.play_run.specs.Play.{Says, Played, Acts, Ran, Tells, TellsFront, TellsPartly}
+use Rattle.play_run.specs.Sums.{RiseAlong}
+use Rattle.play_run.proofs.Sums.{sums}
 
 -- ---- lists
 
@@ -70,19 +72,21 @@ module _ {S R W : Type 0} (o : objects.Ghosts S R W) (r : reads.Ghosts R) (w : w
   rise_more (m ∷ ls) [] l x old mid new along h stays = absurd along
 
   ran_nothing : (V : Whole) (core : Core S R W w) → Stands o r w U core V → Ran o r w U [] V core [] core
-  ran_nothing V core stands = record { played = tt; after = V; seen = []; run = refl; rose = refl; stands = stands }
+  ran_nothing V core stands = record { played = tt; after = V; seen = []; run = refl; rose = refl; few = sums o r core [] [] core refl; stands = stands }
 
   -- one line more
   ran_more : (cs : List Command) (c : Command) (ls : List Line) (l : Line) (V : Whole) (old mid new : Core S R W w) → Ran o r w U cs V old ls mid → Acts o r w c l mid new → Ran o r w U (cs ++ c ∷ []) V old (ls ++ l ∷ []) new
   ran_more cs c ls l V old mid new ran acts =
       let goes = acts.steps U ran.after ran.stands in
       let x : Observation = record { rise = goes.rise; made = goes.made } in
+      let rose = rise_more ls ran.seen l x old mid new ran.rose goes.rises acts.media in
       record {
         played = played_more cs ls c l acts.says ran.played;
         after = goes.after;
         seen = ran.seen ++ x ∷ [];
         run = run_more U ls ran.seen l x V ran.after goes.after ran.run goes.step;
-        rose = rise_more ls ran.seen l x old mid new ran.rose goes.rises acts.media;
+        rose = rose;
+        few = sums o r old (ls ++ l ∷ []) (ran.seen ++ x ∷ []) new rose;
         stands = goes.stands;
       }
 
