@@ -16,7 +16,7 @@ use Rattle.cluster_core.specs.Goes.{Steps}
 use Rattle.cluster_core.specs.Media.{MediaStays}
 use Rattle.cluster_core.specs.Stands.{Stands}
 use Rattle.cluster_core.specs.declared.cluster.Core.{Core}
-use Rattle.play_run.specs.Sums.{RiseAlong, NoneLast, own, total}
+use Rattle.play_run.specs.Sums.{RiseAlong, NoneLast, answers, is_tier_fault, is_wait, labels, own, total, waits}
 
 -- ---- lines of commands
 
@@ -48,9 +48,19 @@ module _ {S R W : Type 0} (o : objects.Ghosts S R W) (r : reads.Ghosts R) (w : w
     pub seen : List Observation
     pub run : Run U V lines after seen
     pub rose : RiseAlong o r w old lines seen new
-    -- so often at least the sum of the tiers' counts rose by one, where none came to its last value
+    -- a tier's fault is answered at most as often as the count of a tier or of what a label has rose, and a wait as a reader's waits did
+    pub faults : answers is_tier_fault lines ≤ own o r w old lines seen new rose + labels o r w old lines seen new rose
+    pub not_ready : answers is_wait lines ≤ waits o r w old lines seen new rose
+    -- the sum of the tiers' counts rose at least as often by one as one of them did, where none came to its last value
     pub few : NoneLast o new → total o old + own o r w old lines seen new rose ≤ total o new
     pub stands : Stands o r w U new after
+
+  -- where no count of a tier was another at the end, and none of a label's rose, no line answers a tier's fault or a wait
+  abbrev pub QuietRuns : Type 0
+  QuietRuns = (U : Setup) (commands : List Command) (V : Whole) (old new : Core S R W w) (lines : List Line) (ran : Ran U commands V old lines new)
+    → NoneLast o new → total o new ≡ total o old
+    → labels o r w old lines ran.seen new ran.rose ≡ 0 → waits o r w old lines ran.seen new ran.rose ≡ 0
+    → (answers is_tier_fault lines ≡ 0) × (answers is_wait lines ≡ 0)
 
   -- ---- what the sink took
 

@@ -1,6 +1,8 @@
 -- What rose along a run, and the sums of the tiers' counts.
-use Rattle.std.specs.Prelude.{ℕ, ◌≡◌, ◌<◌, ◌+◌, ◌-◌, ◌^◌, List, [], ◌∷◌, Some, slice_get, sum_by}
+use Rattle.std.specs.Prelude.{ℕ, ◌≡◌, ◌<◌, ◌+◌, ◌-◌, ◌^◌, Bool, true, false, cond, List, [], ◌∷◌, Some, slice_get, sum_by, count_by}
 use Rattle.fs_model.specs.declared.reply.Line.{Line}
+use Rattle.fs_model.specs.declared.reply.Reply.{Reply}
+use Rattle.fs_model.specs.declared.reply.Refusal.{Refusal}
 use Rattle.fs_model.specs.Faults.{Rise}
 use Rattle.fs_model.specs.Step.{Observation}
 use Rattle.outside.specs.declared.objects.Objects as objects
@@ -10,6 +12,22 @@ use Rattle.cluster_core.specs.Goes.{Rises}
 use Rattle.cluster_core.specs.Media.{MediaStays}
 use Rattle.cluster_core.specs.declared.node.Node.{Node}
 use Rattle.cluster_core.specs.declared.cluster.Core.{Core}
+
+-- ---- answers
+
+-- the answer is a tier's fault
+abbrev pub is_tier_fault : Reply → Bool
+is_tier_fault (Reply.Refused (Refusal.TierFault v)) = true
+is_tier_fault reply = false
+
+-- the answer is that the reader isn't ready
+abbrev pub is_wait : Reply → Bool
+is_wait Reply.NotReady = true
+is_wait reply = false
+
+-- how many lines have such an answer
+abbrev pub answers : (Reply → Bool) → List Line → ℕ
+answers test lines = count_by (λ (line : Line). test line.reply) lines
 
 module _ {S R W : Type 0} (o : objects.Ghosts S R W) where
   -- ---- sums
@@ -37,13 +55,35 @@ module _ {S R W : Type 0} (o : objects.Ghosts S R W) (r : reads.Ghosts R) (w : w
   RiseAlong old [] (seen ∷ more) new = ⊥
   RiseAlong old (line ∷ lines) [] new = ⊥
 
-  -- 1 where a tier's own count rose, and not that of a label, which is dropped with it
-  abbrev pub of_tier : (old new : Core S R W w) (who : ℕ) (rise : Rise) → Rises o r w old new who rise → ℕ
-  of_tier old new who rise (Rises.OfTier v t h) = 1
-  of_tier old new who rise h = 0
+  -- a tier's own count rose, which the tier keeps
+  abbrev pub is_of_tier : (old new : Core S R W w) (who : ℕ) (rise : Rise) → Rises o r w old new who rise → Bool
+  is_of_tier old new who rise (Rises.OfTier v t h) = true
+  is_of_tier old new who rise h = false
+
+  -- the count of a label's reader or writer rose, which is dropped with the label
+  abbrev pub is_of_hand : (old new : Core S R W w) (who : ℕ) (rise : Rise) → Rises o r w old new who rise → Bool
+  is_of_hand old new who rise (Rises.OfHand v l h) = true
+  is_of_hand old new who rise h = false
+
+  -- the waits of a label's reader rose
+  abbrev pub is_of_waits : (old new : Core S R W w) (who : ℕ) (rise : Rise) → Rises o r w old new who rise → Bool
+  is_of_waits old new who rise (Rises.OfWaits v l h) = true
+  is_of_waits old new who rise h = false
+
+  -- how many lines' rises pass the test
+  abbrev pub how_many : ((old new : Core S R W w) (who : ℕ) (rise : Rise) → Rises o r w old new who rise → Bool) → (old : Core S R W w) (lines : List Line) (seen : List Observation) (new : Core S R W w) → RiseAlong old lines seen new → ℕ
+  how_many test old [] seen new along = 0
+  how_many test old (line ∷ lines) [] new along = 0
+  how_many test old (line ∷ lines) (seen ∷ more) new along = cond (test old along.0 line.actor seen.rise along.1) 1 0 + how_many test along.0 lines more new along.3
 
   -- how many lines' rises are of a tier's own count
   abbrev pub own : (old : Core S R W w) (lines : List Line) (seen : List Observation) (new : Core S R W w) → RiseAlong old lines seen new → ℕ
-  own old [] seen new along = 0
-  own old (line ∷ lines) [] new along = 0
-  own old (line ∷ lines) (seen ∷ more) new along = of_tier old along.0 line.actor seen.rise along.1 + own along.0 lines more new along.3
+  own = how_many is_of_tier
+
+  -- how many are of the count of what a label has
+  abbrev pub labels : (old : Core S R W w) (lines : List Line) (seen : List Observation) (new : Core S R W w) → RiseAlong old lines seen new → ℕ
+  labels = how_many is_of_hand
+
+  -- how many are of a reader's waits
+  abbrev pub waits : (old : Core S R W w) (lines : List Line) (seen : List Observation) (new : Core S R W w) → RiseAlong old lines seen new → ℕ
+  waits = how_many is_of_waits
