@@ -48,19 +48,20 @@ module _ {S R W : Type 0} (o : objects.Ghosts S R W) (r : reads.Ghosts R) (w : w
     pub seen : List Observation
     pub run : Run U V lines after seen
     pub rose : RiseAlong o r w old lines seen new
-    -- a tier's fault is answered at most as often as the count of a tier or of what a label has rose, and a wait as a reader's waits did
+    -- at most as many lines answer a tier's fault as counts of tiers and of labels rose
     pub faults : answers is_tier_fault lines ≤ own o r w old lines seen new rose + labels o r w old lines seen new rose
+    -- at most as many lines answer that the reader isn't ready as readers' waits rose
     pub not_ready : answers is_wait lines ≤ waits o r w old lines seen new rose
-    -- the sum of the tiers' counts rose at least as often by one as one of them did, where none came to its last value
+    -- the sum of the tiers' counts rose by one or more for each line in which one of them did, where none came to its last value
     pub few : NoneLast o new → total o old + own o r w old lines seen new rose ≤ total o new
     pub stands : Stands o r w U new after
 
-  -- where no count of a tier was another at the end, and none of a label's rose, no line answers a tier's fault or a wait
+  -- where the sum of the tiers' counts is the same at the end, and no label's count or waits rose, no line answers a tier's fault or that the reader isn't ready
   abbrev pub QuietRuns : Type 0
   QuietRuns = (U : Setup) (commands : List Command) (V : Whole) (old new : Core S R W w) (lines : List Line) (ran : Ran U commands V old lines new)
-    → NoneLast o new → total o new ≡ total o old
-    → labels o r w old lines ran.seen new ran.rose ≡ 0 → waits o r w old lines ran.seen new ran.rose ≡ 0
-    → (answers is_tier_fault lines ≡ 0) × (answers is_wait lines ≡ 0)
+      → NoneLast o new → total o new ≡ total o old
+      → labels o r w old lines ran.seen new ran.rose ≡ 0 → waits o r w old lines ran.seen new ran.rose ≡ 0
+      → (answers is_tier_fault lines ≡ 0) × (answers is_wait lines ≡ 0)
 
   -- ---- what the sink took
 

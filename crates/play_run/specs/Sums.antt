@@ -80,10 +80,10 @@ module _ {S R W : Type 0} (o : objects.Ghosts S R W) (r : reads.Ghosts R) (w : w
   abbrev pub own : (old : Core S R W w) (lines : List Line) (seen : List Observation) (new : Core S R W w) → RiseAlong old lines seen new → ℕ
   own = how_many is_of_tier
 
-  -- how many are of the count of what a label has
+  -- how many lines' rises are of the count of a label's reader or writer
   abbrev pub labels : (old : Core S R W w) (lines : List Line) (seen : List Observation) (new : Core S R W w) → RiseAlong old lines seen new → ℕ
   labels = how_many is_of_hand
 
-  -- how many are of a reader's waits
+  -- how many lines' rises are of the waits of a label's reader
   abbrev pub waits : (old : Core S R W w) (lines : List Line) (seen : List Observation) (new : Core S R W w) → RiseAlong old lines seen new → ℕ
   waits = how_many is_of_waits

@@ -4,7 +4,7 @@ ghost use Rattle.play_run.specs.Play.{QuietRuns};
 
 use outside::objects::Objects;
 
-/// A run that no tier's count and no label's tells of answers no tier's fault and no wait.
+/// Where no tier's count and none of a label's rose, no line of a run answers a tier's fault or a wait.
 pub fn quiet_runs<O: Objects>()
     ensures { QuietRuns O.Objects O.Reader.ObjectRead O.Writer.ObjectWrite }
 {}
