@@ -5,6 +5,10 @@ use Rattle.outside.specs.Causes.{Rose}
 use Rattle.outside.specs.Streams.{Takes}
 use Rattle.node_main.specs.declared.run.End.{End}
 use Rattle.node_main.specs.declared.run.End.TheVariants as ends
+use Rattle.outside.specs.Shelf.{Shelf}
+use Rattle.outside.specs.declared.objects.Objects as objects
+use Rattle.outside.specs.declared.objects.ObjectRead as reads
+use Rattle.outside.specs.declared.objects.ObjectWrite as writes
 use Rattle.node_main.specs.Ends.{Attempted, BeforeLine, BeforeStop, Ended, FinishedAs, Held, IsDue, ToldAs, end_text, status_of}
 
 -- a count that rose later rose since before
@@ -19,6 +23,9 @@ pub data IsUntold : End → Type 0 where
   memory : IsUntold ends.Memory
   long : IsUntold ends.TooLong
   opening : IsUntold ends.OpenFault
+  setup : IsUntold ends.BadSetup
+  damage : (area place : ℕ) → IsUntold (ends.Damaged area place)
+  journal : IsUntold ends.JournalFault
 
 pub not_write : (end : End) → IsUntold end → end ≢ ends.WriteFault
 not_write ends.BadWords u e = cc
@@ -27,6 +34,9 @@ not_write ends.ReadFault u e = cc
 not_write ends.Memory u e = cc
 not_write ends.TooLong u e = cc
 not_write ends.OpenFault u e = cc
+not_write ends.BadSetup u e = cc
+not_write (ends.Damaged area place) u e = cc
+not_write ends.JournalFault u e = cc
 not_write ends.Done u e = cc
 not_write ends.WriteFault u e = elim u [ ]
 
@@ -39,21 +49,27 @@ untold ends.WriteFault d w = absurd (w refl)
 untold ends.Memory d w = IsUntold.memory
 untold ends.TooLong d w = IsUntold.long
 untold ends.OpenFault d w = IsUntold.opening
+untold ends.BadSetup d w = IsUntold.setup
+untold (ends.Damaged area place) d w = IsUntold.damage area place
+untold ends.JournalFault d w = IsUntold.journal
 
-module _ (held : Option Held) (words : List (List ℕ)) (before mid after : Option (List ℕ)) (world input early sink later : Type 0) (since : later → sink) where
+module _ {S R W : Type 0} (o : objects.Ghosts S R W) (r : reads.Ghosts R) (w : writes.Ghosts W) (old new : Option Shelf) (held : Option Held) (words : List (List ℕ)) (before mid after : Option (List ℕ)) (world input early sink later : Type 0) (since : later → sink) where
   -- what the sink took before the line of an end
-  before_stop : (end : End) → IsUntold end → Attempted held words before mid world input early end → BeforeStop held words before mid
+  before_stop : (end : End) → IsUntold end → Attempted o r w old new held words before mid world input early end → BeforeStop o r w old new held words before mid
   before_stop ends.Done u a = elim u [ ]
-  before_stop ends.BadWords u a = inl a.1
-  before_stop (ends.BadScript line) u a = inl a.1
-  before_stop ends.ReadFault u a = inl a.1
+  before_stop ends.BadWords u a = inl (a.1, inl a.2)
+  before_stop (ends.BadScript line) u a = inl (a.1, inl a.2)
+  before_stop ends.ReadFault u a = inl (a.1, inl a.2)
   before_stop ends.WriteFault u a = elim u [ ]
   before_stop ends.Memory u a = a
-  before_stop ends.TooLong u a = inl a.1
-  before_stop ends.OpenFault u a = inl a.1
+  before_stop ends.TooLong u a = inl (a.1, inl a.2)
+  before_stop ends.OpenFault u a = inl (a.1, inl a.2)
+  before_stop ends.BadSetup u a = absurd a.0
+  before_stop (ends.Damaged area place) u a = absurd a.0
+  before_stop ends.JournalFault u a = absurd a.0
 
   -- its cause with that
-  before_line : (end : End) → IsUntold end → Attempted held words before mid world input early end → BeforeLine held words before mid world input end
+  before_line : (end : End) → IsUntold end → Attempted o r w old new held words before mid world input early end → BeforeLine o r w old new held words before mid world input end
   before_line ends.Done u a = elim u [ ]
   before_line ends.BadWords u a = a
   before_line (ends.BadScript line) u a = a
@@ -62,33 +78,39 @@ module _ (held : Option Held) (words : List (List ℕ)) (before mid after : Opti
   before_line ends.Memory u a = a
   before_line ends.TooLong u a = a
   before_line ends.OpenFault u a = a
+  before_line ends.BadSetup u a = a
+  before_line (ends.Damaged area place) u a = a
+  before_line ends.JournalFault u a = a
 
   moved : (text : List ℕ) → mid ≡ before → Takes mid after text → Takes before after text
   moved text e t = subst (λ x. Takes x after text) e t
 
   -- the line was told
-  told : (end : End) → IsUntold end → Attempted held words before mid world input early end → Takes mid after (end_text end) → Ended held words before after world input sink end
+  told : (end : End) → IsUntold end → Attempted o r w old new held words before mid world input early end → Takes mid after (end_text end) → Ended o r w old new held words before after world input sink end
   told ends.Done u a t = elim u [ ]
-  told ends.BadWords u a t = (a.0, moved _ a.1 t)
-  told (ends.BadScript line) u a t = (a.0, moved _ a.1 t)
-  told ends.ReadFault u a t = (a.0, moved _ a.1 t)
+  told ends.BadWords u a t = (a.0, moved _ a.1 t, a.2)
+  told (ends.BadScript line) u a t = (a.0, moved _ a.1 t, a.2)
+  told ends.ReadFault u a t = (a.0, moved _ a.1 t, a.2)
   told ends.WriteFault u a t = elim u [ ]
   told ends.Memory u a t = record { between = mid; lines = a; stop = t }
-  told ends.TooLong u a t = (a.0, moved _ a.1 t)
-  told ends.OpenFault u a t = (a.0, moved _ a.1 t)
+  told ends.TooLong u a t = (a.0, moved _ a.1 t, a.2)
+  told ends.OpenFault u a t = (a.0, moved _ a.1 t, a.2)
+  told ends.BadSetup u a t = absurd a.0
+  told (ends.Damaged area place) u a t = absurd a.0
+  told ends.JournalFault u a t = absurd a.0
 
-  partly : (end : End) → BeforeLine held words before mid world input end → (bytes : ℕ) → Takes mid after (take bytes (end_text end)) → later → Ended held words before after world input sink ends.WriteFault
+  partly : (end : End) → BeforeLine o r w old new held words before mid world input end → (bytes : ℕ) → Takes mid after (take bytes (end_text end)) → later → Ended o r w old new held words before after world input sink ends.WriteFault
   partly end lines bytes t r = (since r, inr (record { end = end; between = mid; lines = lines; bytes = bytes; stop = t }))
 
-  told_as : (end : End) → IsUntold end → Attempted held words before mid world input early end → (result : End) → ToldAs end mid after later result → Ended held words before after world input sink result
+  told_as : (end : End) → IsUntold end → Attempted o r w old new held words before mid world input early end → (result : End) → ToldAs end mid after later result → Ended o r w old new held words before after world input sink result
   told_as end u a result (ToldAs.Told t) = told end u a t
   told_as end u a result (ToldAs.Partly bytes t r) = partly end (before_line end u a) bytes t r
 
-  memory_as : BeforeStop held words before mid → (result : End) → ToldAs ends.Memory mid after later result → Ended held words before after world input sink result
+  memory_as : BeforeStop o r w old new held words before mid → (result : End) → ToldAs ends.Memory mid after later result → Ended o r w old new held words before after world input sink result
   memory_as lines result (ToldAs.Told t) = record { between = mid; lines = lines; stop = t }
   memory_as lines result (ToldAs.Partly bytes t r) = partly ends.Memory lines bytes t r
 
-  pub finished : (end : End) → IsUntold end → Attempted held words before mid world input early end → (result : End) → FinishedAs end mid after later result → Ended held words before after world input sink result
+  pub finished : (end : End) → IsUntold end → Attempted o r w old new held words before mid world input early end → (result : End) → FinishedAs end mid after later result → Ended o r w old new held words before after world input sink result
   finished end u a result (inl t) = told_as end u a result t
   finished end u a result (inr t) = memory_as (before_stop end u a) result t
 
@@ -132,6 +154,9 @@ bad_script ends.WriteFault h = absurd (omega arith)
 bad_script ends.Memory h = absurd (omega arith)
 bad_script ends.TooLong h = absurd (omega arith)
 bad_script ends.OpenFault h = absurd (omega arith)
+bad_script ends.BadSetup h = absurd (omega arith)
+bad_script (ends.Damaged area place) h = absurd (omega arith)
+bad_script ends.JournalFault h = absurd (omega arith)
 
 pub if_some : {T : Type 0} (o : Option T) (P Q : T → Type 0) → ((x : T) → P x → Q x) → IfSome o P → IfSome o Q
 if_some None P Q f h = tt

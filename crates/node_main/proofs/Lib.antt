@@ -1,6 +1,3 @@
-pub mod Steps
-pub mod Begin
-pub mod Runs
-pub mod Built
 pub mod Finishing
+pub mod Playing
 pub mod Telling

@@ -3,6 +3,9 @@
 ghost use Rattle.std.specs.Prelude.{◌≡◌, ◌≢◌, ◌≤◌, ◌<◌, ◌+◌, ◌⊎◌, ℕ, List, true, IfOk, IfErr, IfSome, IsSomeAnd, IsTrue, OnOk, OnErr, Ok, Err, None, Some, [], ◌∷◌, option_map, map, length, take};
 ghost use Rattle.std.specs.String.{string_bytes};
 ghost use Rattle.std.specs.List.{list_all};
+ghost use Rattle.fs_model.specs.State.{Whole};
+ghost use Rattle.fs_model.specs.declared.stop.Stop.{Stop};
+ghost use Rattle.fs_model.specs.Begins.{Begins};
 ghost use Rattle.fs_model.specs.Examples.{two_workers};
 ghost use Rattle.outside.specs.Causes.{Rose};
 ghost use Rattle.outside.specs.Inputs.{is_missed};
@@ -10,9 +13,11 @@ ghost use Rattle.outside.specs.Shelf.{HasShape, KeepsBut, all_names, name_lists}
 ghost use Rattle.outside.specs.Streams.{Gives, GivesAll, Takes};
 ghost use Rattle.script_text.specs.ScriptText.{read_script};
 ghost use Rattle.script_text.specs.Commands.{is_command};
+ghost use Rattle.cluster_core.specs.Begun.{TiersEmpty};
+ghost use Rattle.play_run.specs.Play.{Between, Tells, TellsFront, TellsPartly};
 ghost use Rattle.script_text.specs.declared.read.ScriptFault.TheVariants.{BadLine};
 ghost use Rattle.node_main.specs.Words.{is_file_word, play_words};
-ghost use Rattle.node_main.specs.Ends.{Attempted, BeforeStop, Ended, FinishedAs, Holds, IsBadAt, IsDue, IsHeld, IsLonger, IsScript, IsUntouched, Plays, PlaysFront, PlaysPartly, Stops, ToldAs, WritesPartly, end_of_reading, end_of_stop, end_text, media_names, status_of};
+ghost use Rattle.node_main.specs.Ends.{Attempted, Ended, FinishedAs, GivesBack, Holds, IsBadAt, IsDue, IsHeld, IsLonger, IsScript, IsUntouched, Plays, PlaysFront, PlaysPartly, Stops, ToldAs, WritesPartly, end_of_reading, end_of_stop, end_text, media_names, status_of};
 
 use fs_model::items::Items;
 use fs_model::setup::Setup;
@@ -206,6 +211,33 @@ fn fetch<W: World>(alloc: Global, config: &str, script: &str, world: &mut W) -> 
     }
 }
 
+/// Plays a script over media, and gives its lines to the world's output.
+fn play_out<W: World>(
+    alloc: Global,
+    setup: &Setup,
+    script: &Script,
+    media: Media<W::Store>,
+    world: &mut W,
+) -> (Result<(), Stop>, Media<W::Store>)
+    requires setup { setup.now ≡ two_workers }
+    requires commands { list_all is_command script.now ≡ true }
+    requires shape { HasShape media_names media }
+    ensures done { OnOk result.0 ((V : Whole) → Begins two_workers V → TiersEmpty W.Store.Objects media → Between W.Store.Objects W.Store.Reader.ObjectRead W.Store.Writer.ObjectWrite media result.1 (λ first last. Tells W.Store.Objects W.Store.Reader.ObjectRead W.Store.Writer.ObjectWrite two_workers script.now V first last (W.Out.taken (W.output world.old)) (W.Out.taken (W.output world.new)))) }
+    ensures partly { result.0 ≡ Err Stop.WriteFault → ((V : Whole) → Begins two_workers V → TiersEmpty W.Store.Objects media → Between W.Store.Objects W.Store.Reader.ObjectRead W.Store.Writer.ObjectWrite media result.1 (λ first last. TellsPartly W.Store.Objects W.Store.Reader.ObjectRead W.Store.Writer.ObjectWrite two_workers script.now V first last (W.Out.taken (W.output world.old)) (W.Out.taken (W.output world.new)))) }
+    ensures memory { result.0 ≡ Err Stop.Memory → ((result.1 ≡ media) × (W.output world.new ≡ W.output world.old)) ⊎ ((V : Whole) → Begins two_workers V → TiersEmpty W.Store.Objects media → Between W.Store.Objects W.Store.Reader.ObjectRead W.Store.Writer.ObjectWrite media result.1 (λ first last. TellsFront W.Store.Objects W.Store.Reader.ObjectRead W.Store.Writer.ObjectWrite two_workers script.now V first last (W.Out.taken (W.output world.old)) (W.Out.taken (W.output world.new)))) }
+    ensures write { result.0 ≡ Err Stop.WriteFault → Rose (W.Out.faults (W.output world.old)) (W.Out.faults (W.output world.new)) }
+    ensures ends { IfErr result.0 (λ why. (why ≡ Stop.Memory) ⊎ (why ≡ Stop.WriteFault)) }
+    ensures shape { HasShape media_names result.1 }
+    ensures later { W.Out.faults (W.output world.old) ≤ W.Out.faults (W.output world.new) }
+    ensures input { W.script_input world.new ≡ W.script_input world.old }
+    ensures held { W.held world.new ≡ W.held world.old }
+    ensures faults { W.faults world.new ≡ W.faults world.old }
+    ensures shelf { W.shelf world.new ≡ W.shelf world.old }
+    ensures lent { W.lent world.new ≡ W.lent world.old }
+{
+    play(alloc, setup, script, media, world.out())
+}
+
 /// Plays a script over media that the world has lent, and gives them back.
 fn play_lent<W: World>(
     alloc: Global,
@@ -230,7 +262,7 @@ fn play_lent<W: World>(
     ensures others { KeepsBut (all_names media_names) (W.shelf world.old) (W.shelf world.new) }
     ensures idle { W.lent world.new ≡ None }
 {
-    let (played, back) = play(alloc, setup, script, media, world.out());
+    let (played, back) = play_out(alloc, setup, script, media, world);
     world.give_back(back);
     match played {
         Ok(()) => End::Done,

@@ -1,8 +1,17 @@
 //! Plays over media in memory: what is answered, and what the failing of one of their calls leaves.
 
-ghost use Rattle.std.specs.Prelude.{◌≡◌, ◌∷◌, [], true, IfOk, length};
+ghost use Rattle.std.specs.Prelude.{◌≡◌, ◌∷◌, ◌≤◌, [], true, IfOk, length};
 ghost use Rattle.fs_model.specs.Spelled.{is_setup};
 ghost use Rattle.cluster_core.specs.Begun.{tier_counts};
+
+mod failing;
+mod memory;
+mod reading;
+mod refusals;
+mod scripts;
+mod sinks;
+mod space;
+mod writing;
 
 use crate::play::play;
 use fs_model::items::Items;
@@ -10,12 +19,18 @@ use fs_model::setup::Setup;
 use fs_model::stop::Stop;
 use outside::media::Media;
 use outside::memory::{MemObjects, MemSink};
-use script_text::read::read_script;
+use script_text::read::{ScriptFault, read_script};
 use std::alloc::{AllocError, Global};
 use std::test::Fail;
 
-/// A configuration with blocks of 4 bytes, two stores, worker 1 with tiers of 8 and 8 bytes, and worker 2 with one of 8.
-fn setup(alloc: Global) -> Result<Setup, AllocError>
+/// The bytes of a journal area that no script of these tests fills.
+const AREA: u64 = 65_536;
+
+/// A configuration with blocks of 4 bytes, two stores, worker 1 with tiers of 8 and 8 bytes, and worker 2 with one of
+/// 8; its journal has areas of so many bytes.
+fn setup(alloc: Global, area: u64) -> Result<Setup, AllocError>
+    requires least { 64 ≤ area }
+    requires most { area ≤ 1073741824 }
     ensures setup { IfOk result (λ setup. is_setup setup ≡ true) }
     ensures stores { IfOk result (λ setup. setup.stores ≡ 2) }
     ensures tiers { IfOk result (λ setup. setup.tiers ≡ (8 ∷ 8 ∷ []) ∷ (8 ∷ []) ∷ []) }
@@ -26,7 +41,7 @@ fn setup(alloc: Global) -> Result<Setup, AllocError>
     Ok(Setup {
         block: 4,
         patience: 3,
-        area: 65536,
+        area,
         root: Items::from_vec(Vec::new(alloc)),
         stores: 2,
         tiers: Items::from_vec(tiers),
@@ -66,42 +81,70 @@ fn media(alloc: Global, first: MemObjects) -> Result<Media<MemObjects>, AllocErr
     })
 }
 
-/// The lines of a script over that configuration, with this first tier of worker 1.
-fn lines(alloc: Global, script: &[u8], first: MemObjects) -> Result<Vec<u8>, Fail> {
-    let script = read_script(alloc, script)?;
-    let setup = setup(alloc)?;
-    let media = media(alloc, first)?;
-    let mut sink = MemSink::new(alloc);
-    let (played, _back) = play(alloc, &setup, &script, media, &mut sink);
-    played.map_err(|_| "the play stopped")?;
-    Ok(sink.bytes)
+/// How a play ended, and what it left.
+#[derive(Drop)]
+struct Outcome {
+    end: Result<(), Stop>,
+    sink: MemSink,
+    media: Media<MemObjects>,
 }
 
-/// The script of lines: each without its reply.
-fn script_of(alloc: Global, lines: &str) -> Result<Vec<u8>, Fail> {
+/// Plays a script over that configuration with areas of so many bytes, with this first tier of worker 1, to this sink.
+/// An `Err` came before the play.
+fn played(
+    alloc: Global,
+    area: u64,
+    script: &[u8],
+    first: MemObjects,
+    mut sink: MemSink,
+) -> Result<Outcome, ScriptFault>
+    requires least { 64 ≤ area }
+    requires most { area ≤ 1073741824 }
+{
+    let script = read_script(alloc, script)?;
+    let setup = setup(alloc, area)?;
+    let media = media(alloc, first)?;
+    let (end, media) = play(alloc, &setup, &script, media, &mut sink);
+    Ok(Outcome { end, sink, media })
+}
+
+/// A line without its reply.
+fn event_in(line: &str) -> &str {
+    match line.split_once(" -> ") {
+        None => line,
+        Some((event, _)) => event,
+    }
+}
+
+/// The script of lines: each without its reply. An `Err` is want of memory.
+fn script_of(alloc: Global, lines: &str) -> Result<Vec<u8>, AllocError> {
     let mut script = Vec::new(alloc);
     for line in lines.lines() {
-        let (event, _) = line.split_once(" -> ").ok_or("a line without a reply")?;
-        script.extend_from_slice(event.as_bytes())?;
+        script.extend_from_slice(event_in(line).as_bytes())?;
         script.push(b'\n')?;
     }
     Ok(script)
 }
 
-#[test]
-fn an_empty_file_is_made_and_read(rt: HostRuntime) -> Result<(), Fail> {
-    let alloc = rt.alloc();
-    let text = "1 create f /e MUST_CACHE 1 -> done
-1 done f -> done
-1 open r /e NO_CACHE 0 -> opened 0
-1 poll r 10 -> end
-1 close r -> done
-1 stat /e -> stat file 1 0 NOT_PERSISTED -
-";
-    let script = script_of(alloc, text)?;
-    assert_eq!(rt;
-        lines(alloc, &script, MemObjects::new(alloc))?.as_slice(),
-        text.as_bytes()
-    );
-    Ok(())
+/// What a play that went on to the end told.
+fn text_in(outcome: Outcome) -> Result<String, Fail> {
+    let Outcome { end, sink, .. } = outcome;
+    end.map_err(|_| "the play stopped")?;
+    let MemSink { bytes, .. } = sink;
+    Ok(String::from_utf8(bytes)?)
+}
+
+/// What is told where the script of these lines is played with areas of so many bytes, with this first tier of worker
+/// 1: the lines themselves, where they are right.
+fn told(alloc: Global, area: u64, lines: &str, first: MemObjects) -> Result<String, Fail>
+    requires least { 64 ≤ area }
+    requires most { area ≤ 1073741824 }
+{
+    let script = script_of(alloc, lines)?;
+    text_in(played(alloc, area, &script, first, MemSink::new(alloc))?)
+}
+
+/// The same over tiers of which no call fails, with areas that have room for all.
+fn answered(alloc: Global, lines: &str) -> Result<String, Fail> {
+    told(alloc, AREA, lines, MemObjects::new(alloc))
 }

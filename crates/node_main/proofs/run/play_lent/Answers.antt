@@ -1,0 +1,23 @@
+use Rattle.std.proofs.Common.{◌∙◌, sym, inl, inr, subst}
+use Rattle.node_main.specs.Ends.{media_names}
+use Rattle.node_main.proofs.Playing.{at_some, on_ok, stop_memory, stop_write}
+use Rattle.node_main.proofs.run.play_lent.Goals as goal
+
+pub returns-in-Ok-clause-done : goal.returns-in-Ok-clause-done
+returns-in-Ok-clause-done g c = λ _. rw c.give_back.ensures.output (record {
+    back = c.play_out-played.result.1;
+    held = record { shape = c.play_out-played.ensures.shape; each = at_some _ media_names _ (c.play_out-played.ensures.lent ∙ c.requires.lent) c.give_back.ensures.told };
+    lines = on_ok c.play_out-played.result.0 _ _ c.in-Ok.is c.play_out-played.ensures.done;
+  })
+
+pub returns-in-Err-clause-partly : goal.returns-in-Err-clause-partly
+returns-in-Err-clause-partly g c = λ h.
+    let stop = stop_write c.in-Err.stop (sym c.end_of_stop.ensures ∙ h) in
+    rw c.give_back.ensures.output (record {
+      back = c.play_out-played.result.1;
+      held = record { shape = c.play_out-played.ensures.shape; each = at_some _ media_names _ (c.play_out-played.ensures.lent ∙ c.requires.lent) c.give_back.ensures.told };
+      lines = c.play_out-played.ensures.partly (rw stop at c.in-Err.is);
+    })
+
+pub returns-in-Err-clause-memory : goal.returns-in-Err-clause-memory
+returns-in-Err-clause-memory g c = λ h. ?

@@ -1,0 +1,7 @@
+use Rattle.std.proofs.Common.{◌≡◌, Ok, ap, ◌∙◌, sym, inl, inr}
+use Rattle.script_text.specs.ScriptText.{read_script}
+use Rattle.node_main.proofs.Playing.{so_for}
+use Rattle.node_main.proofs.run.play_text.Goals as goal
+
+pub returns-in-Ok-clause-done : goal.returns-in-Ok-clause-done
+returns-in-Ok-clause-done g c = λ h. so_for g.W.Store.Objects g.W.Store.Reader.ObjectRead g.W.Store.Writer.ObjectWrite (g.W.World.shelf c.args.world.now) (g.W.World.shelf c.play_script.new.world) _ _ (λ commands. read_script c.args.text.now ≡ Ok commands) (λ commands e. c.in-Ok.ensures.exact ∙ ap Ok (sym e)) (c.play_script.ensures.done h)
