@@ -26,10 +26,15 @@ use Rattle.fs_model.proofs.Named.{Step-names}
 pub never : {X : Type 0} → false ≡ true → X
 never h = absurd (true≢false (sym h))
 
--- ---- the reply of an accepted event is no refusal
+-- ---- the reply of an accepted event is no refusal and no wait
 
-abbrev IsAnswer : Reply → Type 0
-IsAnswer reply = is_acknowledged reply ≡ true
+abbrev pub is_answer : Reply → Bool
+is_answer (Reply.Refused r) = false
+is_answer Reply.NotReady = false
+is_answer reply = true
+
+abbrev pub IsAnswer : Reply → Type 0
+IsAnswer reply = is_answer reply ≡ true
 
 IsAnswer-begun_if : (b : Bool) (A : State) → IsAnswer (begun_if b A)
 IsAnswer-begun_if true A = refl
@@ -118,7 +123,7 @@ IsAnswer-sweep_outcome A w = grind arith
 IsAnswer-pump_outcome : (S : Setup) (A : State) (n : ℕ) → IsAnswer (pump_outcome S A n).0
 IsAnswer-pump_outcome S A n = grind arith
 
-IsAnswer-accepted : (S : Setup) (k : Choices) (A : State) (H : Hands) (who : ℕ) (e : Event) → IsAnswer (accepted S k A H who e).0
+pub IsAnswer-accepted : (S : Setup) (k : Choices) (A : State) (H : Hands) (who : ℕ) (e : Event) → IsAnswer (accepted S k A H who e).0
 IsAnswer-accepted S k A H who (Event.Rename p q) = IsAnswer-begun_if _ A
 IsAnswer-accepted S k A H who (Event.Remove p deep) = IsAnswer-begun_if _ A
 IsAnswer-accepted S k A H who (Event.Stat p) = IsAnswer-stat_of S A (file_at A.names p)
@@ -135,11 +140,16 @@ IsAnswer-accepted S k A H who e = refl
 
 -- ---- only an acknowledged line makes a change
 
+answer_is_acknowledged : (reply : Reply) → IsAnswer reply → is_acknowledged reply ≡ true
+answer_is_acknowledged (Reply.Refused r) h = never h
+answer_is_acknowledged Reply.NotReady h = refl
+answer_is_acknowledged reply h = refl
+
 unlike : {X : Type 0} {c : Change} → Some c ≡ None → X
 unlike h = cc
 
 pub change_is_acknowledged : (S : Setup) (A B : State) (who : ℕ) (H G : Hands) (e : Event) (reply : Reply) (rise : Rise) (c : Change) → Step S A who H e reply B G rise (Some c) → IsTrue (is_acknowledged reply)
-change_is_acknowledged S A B who H G e reply rise c (Step.Accepted k accepts clear serves may is change) = ap (λ (o : Outcome). is_acknowledged o.0) is ∙ IsAnswer-accepted S k A H who e
+change_is_acknowledged S A B who H G e reply rise c (Step.Accepted k accepts clear serves may is change) = ap (λ (o : Outcome). is_acknowledged o.0) is ∙ answer_is_acknowledged _ (IsAnswer-accepted S k A H who e)
 change_is_acknowledged S A B who H G e reply rise c (Step.Refused answers body hands none) = unlike none
 change_is_acknowledged S A B who H G e reply rise c (Step.Failed x accepts may is none) = unlike none
 change_is_acknowledged S A B who H G e reply rise c (Step.Stops x fuse accepts clear parks says doubts may shrinks body hands none) = unlike none
@@ -200,7 +210,7 @@ may_change_as e r q is h = ap (λ x. may_change e (reason r x)) (sym is) ∙ h
 
 pub refused_leaves_state : (S : Setup) (A B : State) (who : ℕ) (H G : Hands) (e : Event) (r : Refusal) (rise : Rise) (made : Option Change) → Step S A who H e (Reply.Refused r) B G rise made → may_change e r ≡ false → (B ≡ A) × (G ≡ H)
 refused_leaves_state S A B who H G e r rise made (Step.Refused answers body hands none) h = (body ∙ idle_body_refused A who e r, hands ∙ idle_hands_refused H e r)
-refused_leaves_state S A B who H G e r rise made (Step.Accepted k accepts clear serves may is change) h = never (ap (λ (o : Outcome). is_acknowledged o.0) is ∙ IsAnswer-accepted S k A H who e)
+refused_leaves_state S A B who H G e r rise made (Step.Accepted k accepts clear serves may is change) h = never (ap (λ (o : Outcome). is_acknowledged o.0) is ∙ answer_is_acknowledged _ (IsAnswer-accepted S k A H who e))
 refused_leaves_state S A B who H G e r rise made (Step.Failed x accepts may is none) h =
     let same = is ∙ after_fault_unchanged S x A who H e (sym (failed_may_change S x A H e rise r may) ∙ h) in
     (ap (λ (o : BodyAndHands). o.0) same, ap (λ (o : BodyAndHands). o.1) same)

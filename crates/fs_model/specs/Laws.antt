@@ -1,5 +1,5 @@
 -- Laws above the definitions of the machine.
-use Rattle.std.specs.Prelude.{◌≡◌, ◌≢◌, ℕ, pred, ◌≤◌, ◌<◌, ◌^◌, Bool, true, false, IsTrue, List, length, Option, Some}
+use Rattle.std.specs.Prelude.{◌≡◌, ◌≢◌, ℕ, pred, ◌≤◌, ◌<◌, ◌^◌, ◌||◌, nat_lt, Bool, true, false, IsTrue, List, length, Option, Some}
 use Rattle.std.specs.Fmt.{decimal}
 use Rattle.fs_model.specs.declared.setup.Setup.{Setup}
 use Rattle.fs_model.specs.declared.event.Event.{Event}
@@ -13,8 +13,8 @@ use Rattle.fs_model.specs.PathForm.{path_text, key_text}
 use Rattle.fs_model.specs.Words.{number_text, path_len}
 use Rattle.fs_model.specs.State.{State, Hands, Whole}
 use Rattle.fs_model.specs.Changes.{after, key_len}
-use Rattle.fs_model.specs.Faults.{Rise}
-use Rattle.fs_model.specs.Step.{Step, WholeStep, Observation, Run, changes_of}
+use Rattle.fs_model.specs.Faults.{Rise, Device, rose, clash, is_clash_at}
+use Rattle.fs_model.specs.Step.{Step, journal_may_fail, WholeStep, Observation, Run, changes_of}
 
 -- along every run the next file id and the next plan number never fall
 abbrev pub NextNumbersNeverFall : Type 0
@@ -82,6 +82,20 @@ RefusedLeavesState = (S : Setup) (A B : State) (who : ℕ) (H G : Hands) (e : Ev
 -- and in every case it leaves the names
 abbrev pub RefusedLeavesNames : Type 0
 RefusedLeavesNames = (S : Setup) (A B : State) (who : ℕ) (H G : Hands) (e : Event) (r : Refusal) (rise : Rise) (made : Option Change) → Step S A who H e (Reply.Refused r) B G rise made → B.names ≡ A.names
+
+-- ---- causes
+
+-- the count of what the answer names rose in the event: of the tiers or the store, the journal, or the waits; a clash at the store and too short a fuse are causes too
+abbrev pub is_caused : Setup → State → Hands → Event → Rise → Reply → Bool
+is_caused S A H e r (Reply.Refused (Refusal.TierFault w)) = rose r (Device.TiersOf w)
+is_caused S A H e r (Reply.Refused (Refusal.UnderFault s)) = rose r (Device.StoreOf s) || is_clash_at (clash A H e) (Device.StoreOf s)
+is_caused S A H e r (Reply.Refused Refusal.JournalFault) = journal_may_fail S A H e r
+is_caused S A H e r Reply.NotReady = nat_lt 0 r.waits
+is_caused S A H e r reply = true
+
+-- a fault or a wait is answered only where its cause is there
+abbrev pub FaultsHaveCauses : Type 0
+FaultsHaveCauses = (S : Setup) (A B : State) (who : ℕ) (H G : Hands) (e : Event) (reply : Reply) (rise : Rise) (made : Option Change) → Step S A who H e reply B G rise made → IsTrue (is_caused S A H e rise reply)
 
 -- ---- texts
 

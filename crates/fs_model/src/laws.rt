@@ -1,6 +1,6 @@
 //! Laws of the flat file machine. Each is the contract of an empty function, so that it is proved.
 
-ghost use Rattle.fs_model.specs.Laws.{NextNumbersNeverFall, NamesAreAfterChanges, OnlyAcknowledgedChange, OwnEventsMayComeLater, OwnEventsMayComeEarlier, RefusedLeavesState, RefusedLeavesNames, NumberTextIsDecimal, PathLengthIsOfText, KeyLengthIsOfText};
+ghost use Rattle.fs_model.specs.Laws.{NextNumbersNeverFall, NamesAreAfterChanges, OnlyAcknowledgedChange, OwnEventsMayComeLater, OwnEventsMayComeEarlier, RefusedLeavesState, RefusedLeavesNames, FaultsHaveCauses, NumberTextIsDecimal, PathLengthIsOfText, KeyLengthIsOfText};
 
 /// Along every run the next file id and the next plan number never fall.
 pub fn next_numbers_never_fall()
@@ -35,6 +35,11 @@ pub fn refused_leaves_state()
 /// A refused event leaves the names.
 pub fn refused_leaves_names()
     ensures { RefusedLeavesNames }
+{}
+
+/// A fault or a wait is answered only where its cause is there.
+pub fn faults_have_causes()
+    ensures { FaultsHaveCauses }
 {}
 
 /// The text of a number in a key is the one that std writes, for numbers of at most 64 digits.

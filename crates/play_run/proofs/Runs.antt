@@ -15,11 +15,13 @@ use Rattle.outside.specs.declared.objects.ObjectWrite as writes
 use Rattle.outside.proofs.Known.{Takes-nil, Takes-trans}
 use Rattle.script_text.specs.declared.script.Command.{Command}
 use Rattle.script_text.specs.LineText.{line_text, lines_text}
-use Rattle.cluster_core.specs.Goes.{Goes, Rises}
+use Rattle.cluster_core.specs.Goes.{Rises}
 use Rattle.cluster_core.specs.Media.{MediaStays}
 use Rattle.cluster_core.specs.Stands.{Stands}
 use Rattle.cluster_core.specs.declared.cluster.Core.{Core}
-use Rattle.play_run.specs.Play.{Says, Played, Acts, RiseAlong, Ran, Tells, TellsFront, TellsPartly}
+use Rattle.play_run.specs.Play.{Says, Played, Acts, Ran, QuietRuns, Tells, TellsFront, TellsPartly}
+use Rattle.play_run.specs.Sums.{RiseAlong}
+use Rattle.play_run.proofs.Sums.{run_faults, run_waits, sums}
 
 -- ---- lists
 
@@ -70,19 +72,26 @@ module _ {S R W : Type 0} (o : objects.Ghosts S R W) (r : reads.Ghosts R) (w : w
   rise_more (m ∷ ls) [] l x old mid new along h stays = absurd along
 
   ran_nothing : (V : Whole) (core : Core S R W w) → Stands o r w U core V → Ran o r w U [] V core [] core
-  ran_nothing V core stands = record { played = tt; after = V; seen = []; run = refl; rose = refl; stands = stands }
+  ran_nothing V core stands = record { played = tt; after = V; seen = []; run = refl; rose = refl; faults = run_faults o r U V V core [] [] core refl refl; not_ready = run_waits o r U V V core [] [] core refl refl; few = sums o r core [] [] core refl; stands = stands }
 
   -- one line more
   ran_more : (cs : List Command) (c : Command) (ls : List Line) (l : Line) (V : Whole) (old mid new : Core S R W w) → Ran o r w U cs V old ls mid → Acts o r w c l mid new → Ran o r w U (cs ++ c ∷ []) V old (ls ++ l ∷ []) new
   ran_more cs c ls l V old mid new ran acts =
       let goes = acts.steps U ran.after ran.stands in
       let x : Observation = record { rise = goes.rise; made = goes.made } in
+      let lines = ls ++ l ∷ [] in
+      let seen = ran.seen ++ x ∷ [] in
+      let run = run_more U ls ran.seen l x V ran.after goes.after ran.run goes.step in
+      let rose = rise_more ls ran.seen l x old mid new ran.rose goes.rises acts.media in
       record {
         played = played_more cs ls c l acts.says ran.played;
         after = goes.after;
-        seen = ran.seen ++ x ∷ [];
-        run = run_more U ls ran.seen l x V ran.after goes.after ran.run goes.step;
-        rose = rise_more ls ran.seen l x old mid new ran.rose goes.rises acts.media;
+        seen = seen;
+        run = run;
+        rose = rose;
+        faults = run_faults o r U V goes.after old lines seen new rose run;
+        not_ready = run_waits o r U V goes.after old lines seen new rose run;
+        few = sums o r old lines seen new rose;
         stands = goes.stands;
       }
 
@@ -150,6 +159,13 @@ module _ {S R W : Type 0} (o : objects.Ghosts S R W) (r : reads.Ghosts R) (w : w
 
           shown : lines_text (take (length so_far.lines) lines) ++ take n (lines_text (drop (length so_far.lines) lines)) ≡ lines_text so_far.lines ++ take n (line_text l)
           shown = ap (λ ls. lines_text ls ++ take n (lines_text (drop (length so_far.lines) lines))) (take_front so_far.lines (l ∷ [])) ∙ ap (λ xs. lines_text so_far.lines ++ take n xs) last
+
+-- where no count rose, no line answers a fault or a wait
+pub quiet_runs : {S R W : Type 0} (o : objects.Ghosts S R W) (r : reads.Ghosts R) (w : writes.Ghosts W) → QuietRuns o r w
+quiet_runs o r w U commands V old new lines ran none same hands waited = (
+  let few = ran.few none in omega (arith, few, ran.faults, same, hands),
+  omega (arith, ran.not_ready, waited),
+)
 
 -- what holds of each element of a list holds of the one at a place
 pub all_there : (test : Command → Bool) (cs : List Command) (i : ℕ) (c : Command) → list_all test cs ≡ true → i < length cs → c ≡ get_or cs i c → test c ≡ true

@@ -12,10 +12,11 @@ use Rattle.outside.specs.declared.objects.ObjectWrite as writes
 use Rattle.script_text.specs.declared.script.Command.{Command}
 use Rattle.script_text.specs.declared.script.Verb.{Verb}
 use Rattle.script_text.specs.LineText.{lines_text}
-use Rattle.cluster_core.specs.Goes.{Rises, Steps}
+use Rattle.cluster_core.specs.Goes.{Steps}
 use Rattle.cluster_core.specs.Media.{MediaStays}
 use Rattle.cluster_core.specs.Stands.{Stands}
 use Rattle.cluster_core.specs.declared.cluster.Core.{Core}
+use Rattle.play_run.specs.Sums.{RiseAlong, NoneLast, answers, is_tier_fault, is_wait, labels, own, total, waits}
 
 -- ---- lines of commands
 
@@ -40,21 +41,27 @@ module _ {S R W : Type 0} (o : objects.Ghosts S R W) (r : reads.Ghosts R) (w : w
 
   -- ---- runs
 
-  -- there are cores from one line to the next, between which the counts rose as observed, and no tier's count fell
-  abbrev pub RiseAlong : Core S R W w → List Line → List Observation → Core S R W w → Type 0
-  RiseAlong old [] [] new = new ≡ old
-  RiseAlong old (line ∷ lines) (seen ∷ more) new = (mid : Core S R W w) × Rises o r w old mid line.actor seen.rise × MediaStays o old mid × RiseAlong mid lines more new
-  RiseAlong old [] (seen ∷ more) new = ⊥
-  RiseAlong old (line ∷ lines) [] new = ⊥
-
   -- the lines are a run of the machine for these commands, to a state that the core stands for then, and each rise in it is that of real counts in that event
   pub record Ran (U : Setup) (commands : List Command) (V : Whole) (old : Core S R W w) (lines : List Line) (new : Core S R W w) : Type 0 where
     pub played : Played commands lines
     pub after : Whole
     pub seen : List Observation
     pub run : Run U V lines after seen
-    pub rose : RiseAlong old lines seen new
+    pub rose : RiseAlong o r w old lines seen new
+    -- at most as many lines answer a tier's fault as counts of tiers and of labels rose
+    pub faults : answers is_tier_fault lines ≤ own o r w old lines seen new rose + labels o r w old lines seen new rose
+    -- at most as many lines answer that the reader isn't ready as readers' waits rose
+    pub not_ready : answers is_wait lines ≤ waits o r w old lines seen new rose
+    -- the sum of the tiers' counts rose by one or more for each line in which one of them did, where none came to its last value
+    pub few : NoneLast o new → total o old + own o r w old lines seen new rose ≤ total o new
     pub stands : Stands o r w U new after
+
+  -- where the sum of the tiers' counts is the same at the end, and no label's count or waits rose, no line answers a tier's fault or that the reader isn't ready
+  abbrev pub QuietRuns : Type 0
+  QuietRuns = (U : Setup) (commands : List Command) (V : Whole) (old new : Core S R W w) (lines : List Line) (ran : Ran U commands V old lines new)
+      → NoneLast o new → total o new ≡ total o old
+      → labels o r w old lines ran.seen new ran.rose ≡ 0 → waits o r w old lines ran.seen new ran.rose ≡ 0
+      → (answers is_tier_fault lines ≡ 0) × (answers is_wait lines ≡ 0)
 
   -- ---- what the sink took
 

@@ -1,0 +1,182 @@
+-- The sums of the tiers' counts along a run.
+use Rattle.std.proofs.Common.{◌≡◌, ℕ, zero, suc, Bool, true, false, cond, nat_lt, true≢false, pred, ◌+◌, ◌≤◌, ◌<◌, min, List, [], ◌∷◌, length, get_or, Some, refl, sym, ap, ◌∙◌, subst, arith}
+use Rattle.std.specs.Prelude.{slice_get, sum_by}
+use Rattle.std.proofs.lemmas.List.Sums.{sum_by-cons}
+use Rattle.std.proofs.lemmas.Option.{same_Some, slice_get_within, slice_get-get_or}
+use Rattle.fs_model.specs.declared.setup.Setup.{Setup}
+use Rattle.fs_model.specs.declared.event.Event.{Event}
+use Rattle.fs_model.specs.declared.reply.Line.{Line}
+use Rattle.fs_model.specs.declared.reply.Reply.{Reply}
+use Rattle.fs_model.specs.declared.reply.Refusal.{Refusal}
+use Rattle.fs_model.specs.State.{State, Hands, Whole}
+use Rattle.fs_model.specs.Machine.{hands_of}
+use Rattle.fs_model.specs.Faults.{Rise}
+use Rattle.fs_model.specs.Step.{Observation, WholeStep, Run}
+use Rattle.fs_model.specs.Laws.{is_caused}
+use Rattle.fs_model.proofs.Causes.{faults_have_causes}
+use Rattle.outside.specs.declared.objects.Objects as objects
+use Rattle.outside.specs.declared.objects.ObjectRead as reads
+use Rattle.outside.specs.declared.objects.ObjectWrite as writes
+use Rattle.cluster_core.proofs.NodeChanges.{both_there}
+use Rattle.cluster_core.specs.Goes.{Rises, TierRose}
+use Rattle.cluster_core.specs.Media.{TiersStay, MediaStays}
+use Rattle.cluster_core.specs.declared.node.Node.{Node}
+use Rattle.cluster_core.specs.declared.cluster.Core.{Core}
+use Rattle.play_run.specs.Sums.{answers, is_of_hand, is_of_tier, is_of_waits, is_tier_fault, is_wait, labels, node_total, total, NoneLast, RiseAlong, own, waits}
+
+-- ---- answers
+
+-- the cause of a line's answer
+step_caused : (U : Setup) (V M : Whole) (line : Line) (x : Observation) → WholeStep U V line M x → (A : State) × (H : Hands) × (is_caused U A H line.event x.rise line.reply ≡ true)
+step_caused U V M line x step = (V.body, hands_of V line.actor, faults_have_causes U V.body step.body line.actor (hands_of V line.actor) step.hands line.event line.reply x.rise x.made step.step)
+
+-- no tier's fault where no count of tiers rose
+no_tier_fault : (S : Setup) (A : State) (H : Hands) (e : Event) (rise : Rise) (reply : Reply) → rise.tiers ≡ [] → is_caused S A H e rise reply ≡ true → is_tier_fault reply ≡ false
+no_tier_fault S A H e rise (Reply.Refused (Refusal.TierFault v)) none is = sym is ∙ ap (λ tiers. nat_lt 0 (get_or tiers (pred v) 0)) none
+no_tier_fault S A H e rise (Reply.Refused why) none is = refl
+no_tier_fault S A H e rise reply none is = refl
+
+-- no wait where no waits rose
+no_wait : (S : Setup) (A : State) (H : Hands) (e : Event) (rise : Rise) (reply : Reply) → rise.waits ≡ 0 → is_caused S A H e rise reply ≡ true → is_wait reply ≡ false
+no_wait S A H e rise Reply.NotReady none is = sym is ∙ ap (λ waits. nat_lt 0 waits) none
+no_wait S A H e rise reply none is = refl
+
+-- at most one, and none where the test fails
+one : (b : Bool) → cond b 1 0 ≤ 1
+one true = omega arith
+one false = omega arith
+
+none_of : (b : Bool) → b ≡ false → cond b 1 0 ≤ 0
+none_of true h = absurd (true≢false h)
+none_of false h = omega arith
+
+-- ---- lists
+
+-- a list of the same length has something at the same place
+still_there : {X : Type 0} (xs ys : List X) (i : ℕ) (x : X) → length ys ≡ length xs → slice_get xs i ≡ Some x → slice_get ys i ≡ Some (get_or ys i x)
+still_there xs ys i x same was = let within = slice_get_within xs i x was in slice_get-get_or ys i x (omega (arith, same, within))
+
+-- ---- sums
+
+module _ {X : Type 0} (f : X → ℕ) where
+  -- no term falls
+  abbrev NoneFalls : List X → List X → Type 0
+  NoneFalls xs ys = (i : ℕ) (x y : X) → slice_get xs i ≡ Some x → slice_get ys i ≡ Some y → f x ≤ f y
+
+  sum_stays : (xs ys : List X) → length ys ≡ length xs → NoneFalls xs ys → sum_by f xs ≤ sum_by f ys
+  sum_stays [] [] same falls = omega arith
+  sum_stays (x ∷ xs) (y ∷ ys) same falls =
+      let first = falls 0 x y refl refl in
+      let rest = sum_stays xs ys (omega (arith, same)) (λ i a b was is. falls (suc i) a b was is) in
+      omega (arith, first, rest, sum_by-cons f x xs, sum_by-cons f y ys)
+  sum_stays [] (y ∷ ys) same falls = absurd (omega (arith, same))
+  sum_stays (x ∷ xs) [] same falls = absurd (omega (arith, same))
+
+  -- one term rises
+  sum_rises : (xs ys : List X) (i : ℕ) (x y : X) → length ys ≡ length xs → NoneFalls xs ys → slice_get xs i ≡ Some x → slice_get ys i ≡ Some y → f x + 1 ≤ f y → sum_by f xs + 1 ≤ sum_by f ys
+  sum_rises (a ∷ xs) (b ∷ ys) zero x y same falls was is rises =
+      let rest = sum_stays xs ys (omega (arith, same)) (λ j p q was is. falls (suc j) p q was is) in
+      let here : f a + 1 ≤ f b = subst (λ k. k + 1 ≤ f b) (ap f (same_Some x a (sym was))) (subst (λ k. f x + 1 ≤ k) (ap f (same_Some y b (sym is))) rises) in
+      omega (arith, here, rest, sum_by-cons f a xs, sum_by-cons f b ys)
+  sum_rises (a ∷ xs) (b ∷ ys) (suc i) x y same falls was is rises =
+      let first = falls 0 a b refl refl in
+      let rest = sum_rises xs ys i x y (omega (arith, same)) (λ j p q was is. falls (suc j) p q was is) was is rises in
+      omega (arith, first, rest, sum_by-cons f a xs, sum_by-cons f b ys)
+  sum_rises [] ys i x y same falls was is rises = absurd (cc)
+  sum_rises (a ∷ xs) [] i x y same falls was is rises = absurd (omega (arith, same))
+
+-- below its last value a count that rose is higher by one
+rose_by_one : (a b last : ℕ) → min (a + 1) last ≤ b → b < last → a + 1 ≤ b
+rose_by_one a b last rose few = omega (arith, rose, few)
+
+module _ {S R W : Type 0} (o : objects.Ghosts S R W) where
+  -- ---- a worker
+
+  node_stays : {n m : Node S} → TiersStay o n m → node_total o n ≤ node_total o m
+  node_stays {n} {m} stays = sum_stays o.faults n.tiers.items m.tiers.items stays.same_length stays.faults
+
+  module _ {w : writes.Ghosts W} where
+    -- ---- a core
+
+    -- none stood at its last value before
+    none_before : (old new : Core S R W w) → MediaStays o old new → NoneLast o new → NoneLast o old
+    none_before old new stays none i t n s was there =
+        let m = get_or new.workers.items i n in
+        let is = still_there old.workers.items new.workers.items i n stays.workers.same_length was in
+        let node = stays.workers.each i n m was is in
+        let u = get_or m.tiers.items t s in
+        let here = still_there n.tiers.items m.tiers.items t s node.same_length there in
+        let less = node.faults t s u there here in
+        let few = none i t m u is here in
+        omega (arith, less, few)
+
+    total_stays : (old new : Core S R W w) → MediaStays o old new → total o old ≤ total o new
+    total_stays old new stays = sum_stays (node_total o) old.workers.items new.workers.items stays.workers.same_length (λ i n m was is. node_stays (stays.workers.each i n m was is))
+
+    module _ (r : reads.Ghosts R) where
+      tier_rises : (old new : Core S R W w) (v t : ℕ) → TierRose o r w old new v t → MediaStays o old new → NoneLast o new → total o old + 1 ≤ total o new
+      tier_rises old new v t rose stays none =
+          let at = both_there _ _ rose in
+          let n = at.0 in
+          let m = at.1 in
+          let tier = both_there _ _ at.4 in
+          let node = stays.workers.each (pred v) n m at.2 at.3 in
+          let few = none (pred v) t m tier.1 at.3 tier.3 in
+          let up = sum_rises o.faults n.tiers.items m.tiers.items t tier.0 tier.1 node.same_length node.faults tier.2 tier.3 (rose_by_one (o.faults tier.0) (o.faults tier.1) _ tier.4 few) in
+          sum_rises (node_total o) old.workers.items new.workers.items (pred v) n m stays.workers.same_length (λ i a b was is. node_stays (stays.workers.each i a b was is)) at.2 at.3 up
+
+      line_rises : (old new : Core S R W w) (who : ℕ) (rise : Rise) (h : Rises o r w old new who rise) → MediaStays o old new → NoneLast o new → total o old + cond (is_of_tier o r w old new who rise h) 1 0 ≤ total o new
+      line_rises old new who rise (Rises.OfTier v t h) stays none = tier_rises old new v t h stays none
+      line_rises old new who rise Rises.Nothing stays none = let less = total_stays old new stays in omega (arith, less)
+      line_rises old new who rise (Rises.OfHand v l h) stays none = let less = total_stays old new stays in omega (arith, less)
+      line_rises old new who rise (Rises.OfWaits v l h) stays none = let less = total_stays old new stays in omega (arith, less)
+
+      -- ---- a chain of cores
+
+      -- none stood at its last value at the beginning, and the sum rose by one or more at each line that is counted
+      along_rises : (old : Core S R W w) (lines : List Line) (seen : List Observation) (new : Core S R W w) (along : RiseAlong o r w old lines seen new) → NoneLast o new → NoneLast o old × (total o old + own o r w old lines seen new along ≤ total o new)
+      along_rises old [] [] new along none = subst (λ (core : Core S R W w). NoneLast o core × (total o core + 0 ≤ total o new)) along (none, omega arith)
+      along_rises old (line ∷ lines) (x ∷ more) new along none =
+          let rest = along_rises along.0 lines more new along.3 none in
+          let first = line_rises old along.0 line.actor x.rise along.1 along.2 rest.0 in
+          (none_before old along.0 along.2 rest.0, omega (arith, first, rest.1))
+      along_rises old [] (x ∷ more) new along none = absurd along
+      along_rises old (line ∷ lines) [] new along none = absurd along
+
+      pub sums : (old : Core S R W w) (lines : List Line) (seen : List Observation) (new : Core S R W w) (along : RiseAlong o r w old lines seen new) → NoneLast o new → total o old + own o r w old lines seen new along ≤ total o new
+      sums old lines seen new along none = (along_rises old lines seen new along none).1
+
+      -- a line's answer, and what rose in it
+      line_faults : (old new : Core S R W w) (who : ℕ) (rise : Rise) (h : Rises o r w old new who rise) (U : Setup) (A : State) (H : Hands) (e : Event) (reply : Reply) → is_caused U A H e rise reply ≡ true → cond (is_tier_fault reply) 1 0 ≤ cond (is_of_tier o r w old new who rise h) 1 0 + cond (is_of_hand o r w old new who rise h) 1 0
+      line_faults old new who rise Rises.Nothing U A H e reply is = none_of (is_tier_fault reply) (no_tier_fault U A H e rise reply refl is)
+      line_faults old new who rise (Rises.OfTier v t h) U A H e reply is = one (is_tier_fault reply)
+      line_faults old new who rise (Rises.OfHand v l h) U A H e reply is = one (is_tier_fault reply)
+      line_faults old new who rise (Rises.OfWaits v l h) U A H e reply is = none_of (is_tier_fault reply) (no_tier_fault U A H e rise reply refl is)
+
+      line_waits : (old new : Core S R W w) (who : ℕ) (rise : Rise) (h : Rises o r w old new who rise) (U : Setup) (A : State) (H : Hands) (e : Event) (reply : Reply) → is_caused U A H e rise reply ≡ true → cond (is_wait reply) 1 0 ≤ cond (is_of_waits o r w old new who rise h) 1 0
+      line_waits old new who rise Rises.Nothing U A H e reply is = none_of (is_wait reply) (no_wait U A H e rise reply refl is)
+      line_waits old new who rise (Rises.OfTier v t h) U A H e reply is = none_of (is_wait reply) (no_wait U A H e rise reply refl is)
+      line_waits old new who rise (Rises.OfHand v l h) U A H e reply is = none_of (is_wait reply) (no_wait U A H e rise reply refl is)
+      line_waits old new who rise (Rises.OfWaits v l h) U A H e reply is = one (is_wait reply)
+
+      -- ---- a run
+
+      pub run_faults : (U : Setup) (V after : Whole) (old : Core S R W w) (lines : List Line) (seen : List Observation) (new : Core S R W w) (along : RiseAlong o r w old lines seen new) → Run U V lines after seen → answers is_tier_fault lines ≤ own o r w old lines seen new along + labels o r w old lines seen new along
+      run_faults U V after old [] [] new along run = omega arith
+      run_faults U V after old (line ∷ lines) (x ∷ more) new along run =
+          let c = step_caused U V run.0 line x run.1 in
+          let first = line_faults old along.0 line.actor x.rise along.1 U c.0 c.1 line.event line.reply c.2 in
+          let rest = run_faults U run.0 after along.0 lines more new along.3 run.2 in
+          omega (arith, first, rest, sum_by-cons (λ (l : Line). cond (is_tier_fault l.reply) 1 0) line lines)
+      run_faults U V after old [] (x ∷ more) new along run = absurd along
+      run_faults U V after old (line ∷ lines) [] new along run = absurd along
+
+      pub run_waits : (U : Setup) (V after : Whole) (old : Core S R W w) (lines : List Line) (seen : List Observation) (new : Core S R W w) (along : RiseAlong o r w old lines seen new) → Run U V lines after seen → answers is_wait lines ≤ waits o r w old lines seen new along
+      run_waits U V after old [] [] new along run = omega arith
+      run_waits U V after old (line ∷ lines) (x ∷ more) new along run =
+          let c = step_caused U V run.0 line x run.1 in
+          let first = line_waits old along.0 line.actor x.rise along.1 U c.0 c.1 line.event line.reply c.2 in
+          let rest = run_waits U run.0 after along.0 lines more new along.3 run.2 in
+          omega (arith, first, rest, sum_by-cons (λ (l : Line). cond (is_wait l.reply) 1 0) line lines)
+      run_waits U V after old [] (x ∷ more) new along run = absurd along
+      run_waits U V after old (line ∷ lines) [] new along run = absurd along

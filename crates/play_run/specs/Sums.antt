@@ -1,0 +1,89 @@
+-- What rose along a run, and the sums of the tiers' counts.
+use Rattle.std.specs.Prelude.{ℕ, ◌≡◌, ◌<◌, ◌+◌, ◌-◌, ◌^◌, Bool, true, false, cond, List, [], ◌∷◌, Some, slice_get, sum_by, count_by}
+use Rattle.fs_model.specs.declared.reply.Line.{Line}
+use Rattle.fs_model.specs.declared.reply.Reply.{Reply}
+use Rattle.fs_model.specs.declared.reply.Refusal.{Refusal}
+use Rattle.fs_model.specs.Faults.{Rise}
+use Rattle.fs_model.specs.Step.{Observation}
+use Rattle.outside.specs.declared.objects.Objects as objects
+use Rattle.outside.specs.declared.objects.ObjectRead as reads
+use Rattle.outside.specs.declared.objects.ObjectWrite as writes
+use Rattle.cluster_core.specs.Goes.{Rises}
+use Rattle.cluster_core.specs.Media.{MediaStays}
+use Rattle.cluster_core.specs.declared.node.Node.{Node}
+use Rattle.cluster_core.specs.declared.cluster.Core.{Core}
+
+-- ---- answers
+
+-- the answer is a tier's fault
+abbrev pub is_tier_fault : Reply → Bool
+is_tier_fault (Reply.Refused (Refusal.TierFault v)) = true
+is_tier_fault reply = false
+
+-- the answer is that the reader isn't ready
+abbrev pub is_wait : Reply → Bool
+is_wait Reply.NotReady = true
+is_wait reply = false
+
+-- how many lines have such an answer
+abbrev pub answers : (Reply → Bool) → List Line → ℕ
+answers test lines = count_by (λ (line : Line). test line.reply) lines
+
+module _ {S R W : Type 0} (o : objects.Ghosts S R W) where
+  -- ---- sums
+
+  -- the sum of the counts of a worker's tiers
+  abbrev pub node_total : Node S → ℕ
+  node_total n = sum_by o.faults n.tiers.items
+
+  module _ {w : writes.Ghosts W} where
+    -- the sum of the counts of all tiers
+    abbrev pub total : Core S R W w → ℕ
+    total core = sum_by node_total core.workers.items
+
+    -- no tier's count has come to its last value
+    abbrev pub NoneLast : Core S R W w → Type 0
+    NoneLast core = (i t : ℕ) (n : Node S) (s : S) → slice_get core.workers.items i ≡ Some n → slice_get n.tiers.items t ≡ Some s → o.faults s < 2 ^ 64 - 1
+
+module _ {S R W : Type 0} (o : objects.Ghosts S R W) (r : reads.Ghosts R) (w : writes.Ghosts W) where
+  -- ---- what rose
+
+  -- there are cores from one line to the next, between which the counts rose as observed, and no tier's count fell
+  abbrev pub RiseAlong : Core S R W w → List Line → List Observation → Core S R W w → Type 0
+  RiseAlong old [] [] new = new ≡ old
+  RiseAlong old (line ∷ lines) (seen ∷ more) new = (mid : Core S R W w) × Rises o r w old mid line.actor seen.rise × MediaStays o old mid × RiseAlong mid lines more new
+  RiseAlong old [] (seen ∷ more) new = ⊥
+  RiseAlong old (line ∷ lines) [] new = ⊥
+
+  -- a tier's own count rose, which the tier keeps
+  abbrev pub is_of_tier : (old new : Core S R W w) (who : ℕ) (rise : Rise) → Rises o r w old new who rise → Bool
+  is_of_tier old new who rise (Rises.OfTier v t h) = true
+  is_of_tier old new who rise h = false
+
+  -- the count of a label's reader or writer rose, which is dropped with the label
+  abbrev pub is_of_hand : (old new : Core S R W w) (who : ℕ) (rise : Rise) → Rises o r w old new who rise → Bool
+  is_of_hand old new who rise (Rises.OfHand v l h) = true
+  is_of_hand old new who rise h = false
+
+  -- the waits of a label's reader rose
+  abbrev pub is_of_waits : (old new : Core S R W w) (who : ℕ) (rise : Rise) → Rises o r w old new who rise → Bool
+  is_of_waits old new who rise (Rises.OfWaits v l h) = true
+  is_of_waits old new who rise h = false
+
+  -- how many lines' rises pass the test
+  abbrev pub how_many : ((old new : Core S R W w) (who : ℕ) (rise : Rise) → Rises o r w old new who rise → Bool) → (old : Core S R W w) (lines : List Line) (seen : List Observation) (new : Core S R W w) → RiseAlong old lines seen new → ℕ
+  how_many test old [] seen new along = 0
+  how_many test old (line ∷ lines) [] new along = 0
+  how_many test old (line ∷ lines) (seen ∷ more) new along = cond (test old along.0 line.actor seen.rise along.1) 1 0 + how_many test along.0 lines more new along.3
+
+  -- how many lines' rises are of a tier's own count
+  abbrev pub own : (old : Core S R W w) (lines : List Line) (seen : List Observation) (new : Core S R W w) → RiseAlong old lines seen new → ℕ
+  own = how_many is_of_tier
+
+  -- how many lines' rises are of the count of a label's reader or writer
+  abbrev pub labels : (old : Core S R W w) (lines : List Line) (seen : List Observation) (new : Core S R W w) → RiseAlong old lines seen new → ℕ
+  labels = how_many is_of_hand
+
+  -- how many lines' rises are of the waits of a label's reader
+  abbrev pub waits : (old : Core S R W w) (lines : List Line) (seen : List Observation) (new : Core S R W w) → RiseAlong old lines seen new → ℕ
+  waits = how_many is_of_waits
