@@ -96,7 +96,7 @@ module _ {S R W : Type 0} (o : objects.Ghosts S R W) (key : List (List ℕ)) (P 
   then_rose end long (Some s) None p h = absurd h
   then_rose end long (Some s) (Some u) p h = elim h as (λ k. Rose (o.faults s) (o.faults u)) [
     | inl more ↦ more
-    | inr short ↦ absurd (let long_enough = long_in end long (o.told s) p in not_both (is_short (o.told s) key end) long_enough short)
+    | inr missed ↦ absurd (let long_enough = long_in end long (o.told s) p in not_both (is_short (o.told s) key end) long_enough missed.1)
   ]
     where
       not_both : (b : Bool) → b ≡ false → IsTrue b → ⊥

@@ -80,7 +80,7 @@ module _ {S R W : Type 0} (o : objects.Ghosts S R W) where
       let both = both_there (slice_get old.tiers.items q.tier) (slice_get new.tiers.items q.tier) change.at in
       let rose : Rose (o.faults both.0) (o.faults both.1) = elim both.4 [
         | inl rose ↦ rose
-        | inr crossed ↦ absurd (none_crossed o both.0 (object_key old.started n) refl (stands.tells q.tier both.0 both.2) crossed)
+        | inr missed ↦ absurd (none_crossed o both.0 (object_key old.started n) refl (stands.tells q.tier both.0 both.2) missed.1)
       ] in
       subst (λ x. IsSomeAnd x (λ s. IsSomeAnd (slice_get new.tiers.items q.tier) (λ u. Rose (o.faults s) (o.faults u)))) (sym both.2) (subst (λ x. IsSomeAnd x (λ u. Rose (o.faults both.0) (o.faults u))) (sym both.3) rose)
 

@@ -56,3 +56,4 @@ pub mod DoneGo
 pub mod DoneSteps
 pub mod DonePlace
 pub mod MediaStay
+pub mod Caused

@@ -25,11 +25,11 @@ use Rattle.cluster_core.specs.declared.cluster.Core.{Core}
 -- ---- lists
 
 -- a list of the same length has something at the same place
-still_there : {X : Type 0} (xs ys : List X) (i : ℕ) (x : X) → length ys ≡ length xs → slice_get xs i ≡ Some x → slice_get ys i ≡ Some (get_or ys i x)
+pub still_there : {X : Type 0} (xs ys : List X) (i : ℕ) (x : X) → length ys ≡ length xs → slice_get xs i ≡ Some x → slice_get ys i ≡ Some (get_or ys i x)
 still_there xs ys i x same was = let within = slice_get_within xs i x was in slice_get-get_or ys i x (omega (arith, same, within))
 
 -- what is there has P
-there : {X : Type 0} {P : X → Type 0} (x : Option X) → IsSomeAnd x P → (a : X) × P a
+pub there : {X : Type 0} {P : X → Type 0} (x : Option X) → IsSomeAnd x P → (a : X) × P a
 there None h = absurd h
 there (Some a) h = (a, h)
 

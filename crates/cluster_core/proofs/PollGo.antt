@@ -150,7 +150,7 @@ module _ {R : Type 0} (r : reads.Ghosts R) (K : Knowledge) (next bs : ℕ) (some
 -- ---- what rose
 
 -- a count of a source's reader rose
-rose_both : {S R W : Type 0} (o : objects.Ghosts S R W) (r : reads.Ghosts R) (w : writes.Ghosts W) (count : R → ℕ) (p q : Option (BlockSource R)) (b z : BlockSource R) → p ≡ Some b → q ≡ Some z → Rose (count b.stream.reader) (count z.stream.reader) → SourceRose o r w count b.worker p q
+pub rose_both : {S R W : Type 0} (o : objects.Ghosts S R W) (r : reads.Ghosts R) (w : writes.Ghosts W) (count : R → ℕ) (p q : Option (BlockSource R)) (b z : BlockSource R) → p ≡ Some b → q ≡ Some z → Rose (count b.stream.reader) (count z.stream.reader) → SourceRose o r w count b.worker p q
 rose_both o r w count p q b z is next more = subst (λ k. SourceRose o r w count b.worker k q) (sym is) (subst (λ k. SourceRose o r w count b.worker (Some b) k) (sym next) (refl, more))
 
 -- ---- the event

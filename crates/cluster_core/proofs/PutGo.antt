@@ -36,7 +36,7 @@ use Rattle.cluster_core.specs.HandChanges.{KeepsHands, AddsHand, SetsHand, EndsH
 use Rattle.cluster_core.specs.HandFits.{Fits, WriterFits, open_of}
 use Rattle.cluster_core.specs.Knowledge.{Knowledge, Holder, HasRoomOf, Leaves, with_bytes}
 use Rattle.cluster_core.specs.Kept.{KeepsRest}
-use Rattle.cluster_core.specs.Putting.{Took, Broke, SameWriter, DidPiece, DidPut, DidIn, HasObject, lacking, missing, put_reply}
+use Rattle.cluster_core.specs.Putting.{Took, Broke, SameWriter, DidPiece, DidPut, DidIn, ObjectRose, lacking, missing, put_reply}
 use Rattle.cluster_core.specs.Stands.{Stands, FilesStand}
 use Rattle.cluster_core.specs.Goes.{Goes, Steps, Rises, AtLabel, HandRose, no_rise, tier_rise, one_at}
 use Rattle.cluster_core.specs.declared.cluster.Core.{Core}
@@ -458,8 +458,8 @@ module _ {S R W : Type 0} (o : objects.Ghosts S R W) (r : reads.Ghosts R) (w : w
         }
 
     -- an unbroken writer has no object
-    no_object : x.broken ≡ false → HasObject w x → ⊥
-    no_object whole has = subst (λ q. IsSomeAnd q (λ z. ⊤)) (fits.on whole).alone has
+    no_object : (u : ℕ) → x.broken ≡ false → ObjectRose w u x y → ⊥
+    no_object u whole has = subst (λ q. IsSomeAnd q (λ z. u ≡ z.store)) (fits.on whole).alone has.0
 
     put_writer : (end : PutEnd) → DidPut w old.block fill end x y → Leads (put_reply end)
     put_writer PutEnd.BadLabel d = put_refused (kept_if d.1) (writer_broken (hands_of V (suc i)) l m at (fits.broken ∙ d.0))
@@ -467,7 +467,7 @@ module _ {S R W : Type 0} (o : objects.Ghosts S R W) (r : reads.Ghosts R) (w : w
     put_writer PutEnd.Short d = put_short (kept_if d.3)
     put_writer (PutEnd.Taken n) d = put_taken n d.0 (d.1 fits.blocks) d.2
     put_writer (PutEnd.TierFault v) d = put_failed v d.0 d.1 d.2
-    put_writer (PutEnd.UnderFault u) d = absurd (no_object d.0 d.1)
+    put_writer (PutEnd.UnderFault u) d = absurd (no_object u d.0 d.1)
 
   -- ---- what is under the label
 

@@ -1,30 +1,42 @@
 -- Why an event answers a fault or a wait, whatever the core stands for.
-use Rattle.std.specs.Prelude.{ℕ, ⊤, ◌⊎◌, List, pred, Some, None}
+use Rattle.std.specs.Prelude.{ℕ, ⊤, ◌⊎◌, List, pred}
 use Rattle.fs_model.specs.declared.reply.Reply.{Reply}
 use Rattle.fs_model.specs.declared.reply.Refusal.{Refusal}
-use Rattle.outside.specs.Causes.{Rose}
 use Rattle.outside.specs.declared.objects.Objects as objects
 use Rattle.outside.specs.declared.objects.ObjectRead as reads
 use Rattle.outside.specs.declared.objects.ObjectWrite as writes
-use Rattle.file_writer.specs.Parts.{object_faults}
-use Rattle.cluster_core.specs.Tiers.{At}
+use Rattle.cluster_core.specs.Tiers.{At, Counts}
 use Rattle.cluster_core.specs.Goes.{AtLabel, HandRose, HandWaited}
+use Rattle.cluster_core.specs.Putting.{ObjectRose}
+use Rattle.cluster_core.specs.declared.node.Node.{Node}
 use Rattle.cluster_core.specs.declared.hand.Hand.{Hand}
 use Rattle.cluster_core.specs.declared.cluster.Core.{Core}
 
-module _ {S R W : Type 0} (o : objects.Ghosts S R W) (r : reads.Ghosts R) (w : writes.Ghosts W) where
-  -- a tier of the worker counted a failure, or a miss
-  abbrev pub TierCounted : Core S R W w → Core S R W w → ℕ → Type 0
-  TierCounted old new v = (t : ℕ) × At old.workers.items new.workers.items (pred v) (λ n m. At n.tiers.items m.tiers.items t (λ s u. Rose (o.faults s) (o.faults u) ⊎ Rose (o.misses s) (o.misses u)))
+-- the reply is no fault of a store and no wait, and where it is the fault of a worker, P holds of that worker
+abbrev pub OnlyTier : (ℕ → Type 0) → Reply → Type 0
+OnlyTier P (Reply.Refused (Refusal.TierFault v)) = P v
+OnlyTier P (Reply.Refused (Refusal.UnderFault s)) = ⊥
+OnlyTier P Reply.NotReady = ⊥
+OnlyTier P reply = ⊤
 
-  -- the count of the writer of a label's object in this under-store rose
-  abbrev pub ObjectRose : ℕ → Hand R W → Hand R W → Type 0
-  ObjectRose s (Hand.Writing x) (Hand.Writing y) = Rose (object_faults w x.bytes.object) (object_faults w y.bytes.object)
-  ObjectRose s h k = ⊥
+module _ {S R W : Type 0} (o : objects.Ghosts S R W) where
+  -- a tier of the worker counted a failure or a miss
+  abbrev pub NodeCounted : Node S → Node S → Type 0
+  NodeCounted n m = (t : ℕ) × At n.tiers.items m.tiers.items t (Counts o)
+
+  -- so it is with the worker of this number
+  abbrev pub TierCounted : {w : writes.Ghosts W} → Core S R W w → Core S R W w → ℕ → Type 0
+  TierCounted old new v = At old.workers.items new.workers.items (pred v) NodeCounted
+
+module _ {S R W : Type 0} (o : objects.Ghosts S R W) (r : reads.Ghosts R) (w : writes.Ghosts W) where
+  -- the label has a writer with an object in this store, and the count of the object's writer rose
+  abbrev pub UnderRose : ℕ → Hand R W → Hand R W → Type 0
+  UnderRose s (Hand.Writing x) (Hand.Writing y) = ObjectRose w s x y
+  UnderRose s h k = ⊥
 
   -- a fault is answered only where a count rose in the event: of a tier of that worker, or of the reader or writer under a label of the actor; and a wait only where the waits of such a reader did
   abbrev pub IsCaused : Core S R W w → Core S R W w → ℕ → Reply → Type 0
-  IsCaused old new who (Reply.Refused (Refusal.TierFault v)) = TierCounted old new v ⊎ (l : List ℕ) × AtLabel o r w old new who l (HandRose o r w v)
-  IsCaused old new who (Reply.Refused (Refusal.UnderFault s)) = (l : List ℕ) × AtLabel o r w old new who l (ObjectRose s)
+  IsCaused old new who (Reply.Refused (Refusal.TierFault v)) = TierCounted o old new v ⊎ (l : List ℕ) × AtLabel o r w old new who l (HandRose o r w v)
+  IsCaused old new who (Reply.Refused (Refusal.UnderFault s)) = (l : List ℕ) × AtLabel o r w old new who l (UnderRose s)
   IsCaused old new who Reply.NotReady = (v : ℕ) × (l : List ℕ) × AtLabel o r w old new who l (HandWaited o r w v)
   IsCaused old new who reply = ⊤

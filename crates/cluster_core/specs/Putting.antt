@@ -1,12 +1,12 @@
 -- What a put did to what is under a label.
-use Rattle.std.specs.Prelude.{ℕ, ◌≡◌, ◌++◌, ◌-◌, ⊤, Bool, true, false, min, List, length, take, Option, Some, None, IsSomeAnd}
+use Rattle.std.specs.Prelude.{ℕ, ◌≡◌, ◌++◌, ◌-◌, Bool, true, false, min, List, length, take, Option, Some, None, IsSomeAnd}
 use Rattle.fs_model.specs.declared.event.Fill.{Fill}
 use Rattle.fs_model.specs.declared.reply.Reply.{Reply}
 use Rattle.fs_model.specs.declared.reply.Refusal.{Refusal}
 use Rattle.fs_model.specs.BytesOutcomes.{fill_bytes, fill_len, lacks}
 use Rattle.outside.specs.Causes.{Rose}
 use Rattle.outside.specs.declared.objects.ObjectWrite as writes
-use Rattle.file_writer.specs.Parts.{block_faults, block_tells, open_block}
+use Rattle.file_writer.specs.Parts.{block_faults, block_tells, object_faults, open_block}
 use Rattle.file_writer.specs.Taken.{HasTaken}
 use Rattle.file_writer.specs.Writing.{Writing, Stops, TakesPiece, wants_room}
 use Rattle.cluster_core.specs.declared.hand.Hand.{Hand}
@@ -61,9 +61,9 @@ module _ {W : Type 0} (w : writes.Ghosts W) where
     pub stops : Stops old.bytes new.bytes
     pub rose : Rose (block_faults w old.bytes.block) (block_faults w new.bytes.block)
 
-  -- the writer has an object in a store
-  abbrev pub HasObject : Writer W → Type 0
-  HasObject x = IsSomeAnd x.bytes.object (λ o. ⊤)
+  -- the writer has an object in this store, and the count of the object's writer rose
+  abbrev pub ObjectRose : ℕ → Writer W → Writer W → Type 0
+  ObjectRose s old new = IsSomeAnd old.bytes.object (λ o. s ≡ o.store) × Rose (object_faults w old.bytes.object) (object_faults w new.bytes.object)
 
   -- a put of a piece ended so
   abbrev pub DidPiece : List ℕ → PutEnd → Writer W → Writer W → Type 0
@@ -72,7 +72,7 @@ module _ {W : Type 0} (w : writes.Ghosts W) where
   DidPiece piece PutEnd.Short old new = ⊥
   DidPiece piece (PutEnd.Taken n) old new = (n ≡ min (length piece) (lacking old.bytes)) × Took (take n piece) old new
   DidPiece piece (PutEnd.TierFault v) old new = (v ≡ old.worker) × Broke old new
-  DidPiece piece (PutEnd.UnderFault s) old new = HasObject old
+  DidPiece piece (PutEnd.UnderFault s) old new = ObjectRose s old new
 
   -- a put of a fill ended so, in blocks of so many bytes
   abbrev pub DidPut : ℕ → Fill → PutEnd → Writer W → Writer W → Type 0
@@ -81,7 +81,7 @@ module _ {W : Type 0} (w : writes.Ghosts W) where
   DidPut bs fill PutEnd.Short old new = (is_made fill ≡ true) × (old.broken ≡ false) × (wants_room old.bytes ≡ false) × (new ≡ old)
   DidPut bs fill (PutEnd.Taken n) old new = (old.broken ≡ false) × (old.bytes.bs ≡ bs → n ≡ min (fill_len fill) (lacking old.bytes)) × Took (take n (fill_bytes fill)) old new
   DidPut bs fill (PutEnd.TierFault v) old new = (old.broken ≡ false) × (v ≡ old.worker) × Broke old new
-  DidPut bs fill (PutEnd.UnderFault s) old new = (old.broken ≡ false) × HasObject old
+  DidPut bs fill (PutEnd.UnderFault s) old new = (old.broken ≡ false) × ObjectRose s old new
 
   -- the same of what is under a label: a stream takes no bytes
   abbrev pub DidIn : {R : Type 0} → ℕ → Fill → PutEnd → Hand R W → Hand R W → Type 0

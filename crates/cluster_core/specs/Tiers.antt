@@ -37,10 +37,14 @@ pub record IsPutOrNot {S R W : Type 0} (o : objects.Ghosts S R W) (w : writes.Gh
   pub bytes : (bytes : List ℕ) → w.taken writer ≡ option_map (λ _. bytes) (o.told old) → IsSame (option_map (put_at key (Some bytes)) (o.told old)) (o.told new) ⊎ IsSame (o.told old) (o.told new)
   pub faults : o.faults old ≤ o.faults new
 
--- the store failed, or it tells and the key can't stand beside another's
-abbrev pub IsFaultOrCrossed : {S R W : Type 0} → objects.Ghosts S R W → KeyNames → S → S → Type 0
-IsFaultOrCrossed o key old new = Rose (o.faults old) (o.faults new) ⊎ IsCrossed (o.told old) key
+-- the store counted a failure or a miss
+abbrev pub Counts : {S R W : Type 0} → objects.Ghosts S R W → S → S → Type 0
+Counts o old new = Rose (o.faults old) (o.faults new) ⊎ Rose (o.misses old) (o.misses new)
 
--- the store failed, or it tells and the object of the key is absent or ends before this place
+-- the store failed, or it counted a miss: it tells, and the key can't stand beside another's
+abbrev pub IsFaultOrCrossed : {S R W : Type 0} → objects.Ghosts S R W → KeyNames → S → S → Type 0
+IsFaultOrCrossed o key old new = Rose (o.faults old) (o.faults new) ⊎ Rose (o.misses old) (o.misses new) × IsCrossed (o.told old) key
+
+-- the store failed, or it counted a miss: it tells, and the object of the key is absent or ends before this place
 abbrev pub IsFaultOrShort : {S R W : Type 0} → objects.Ghosts S R W → KeyNames → ℕ → S → S → Type 0
-IsFaultOrShort o key end old new = Rose (o.faults old) (o.faults new) ⊎ IsTrue (is_short (o.told old) key end)
+IsFaultOrShort o key end old new = Rose (o.faults old) (o.faults new) ⊎ Rose (o.misses old) (o.misses new) × IsTrue (is_short (o.told old) key end)

@@ -3,6 +3,7 @@
 ghost use Rattle.std.specs.Prelude.{◌≡◌, ℕ, true, false, pred, Some, None};
 ghost use Rattle.fs_model.specs.declared.event.Event.{Event};
 ghost use Rattle.fs_model.specs.Spelled.{is_actor};
+ghost use Rattle.cluster_core.specs.Causes.{IsCaused};
 ghost use Rattle.cluster_core.specs.Goes.{Steps};
 ghost use Rattle.cluster_core.specs.Reserved.{room_in};
 ghost use Rattle.cluster_core.specs.Here.{runs_here};
@@ -51,6 +52,7 @@ impl<O: Objects> Core<O, O::Reader, O::Writer> {
         requires { is_actor actor ≡ true }
         ensures steps { Steps O.Objects O.Reader.ObjectRead O.Writer.ObjectWrite self.old self.new actor (Event.Close label.now) result }
         ensures media { MediaStays O.Objects self.old self.new }
+        ensures cause { IsCaused O.Objects O.Reader.ObjectRead O.Writer.ObjectWrite self.old self.new actor result }
     {
         match self.take_hand(actor, label) {
             None => Reply::Refused(Refusal::BadLabel),

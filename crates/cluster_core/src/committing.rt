@@ -5,6 +5,7 @@ ghost use Rattle.outside.specs.declared.world.Fail.{Fail};
 ghost use Rattle.fs_model.specs.Lookups.{stored_is_yes};
 ghost use Rattle.inode_tree.specs.Rows.{node_of};
 ghost use Rattle.file_writer.specs.Writing.{block_writer, wants_room};
+ghost use Rattle.cluster_core.specs.Causes.{TierCounted};
 ghost use Rattle.cluster_core.specs.Kept.{KeepsRest};
 ghost use Rattle.cluster_core.specs.Media.{MediaStays, TiersStay};
 ghost use Rattle.cluster_core.specs.Tiers.{ChangesAt};
@@ -155,6 +156,7 @@ impl<O: Objects> Core<O, O::Reader, O::Writer> {
         ensures broken { result ≡ Err Fail.Failed → writer.new ≡ closed_writer true writer.old }
         ensures memory { result ≡ Err Fail.Memory → (self.new.workers ≡ self.old.workers) × (writer.new ≡ writer.old) }
         ensures media { MediaStays O.Objects self.old self.new }
+        ensures counted { result ≡ Err Fail.Failed → TierCounted O.Objects self.old self.new writer.old.worker }
     {
         let reserved = writer.room;
         let worker = writer.worker;

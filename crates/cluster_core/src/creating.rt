@@ -5,6 +5,7 @@ ghost use Rattle.fs_model.specs.declared.event.Event.{Event};
 ghost use Rattle.fs_model.specs.declared.event.WriteType.{WriteType};
 ghost use Rattle.fs_model.specs.declared.reply.Reply.{Reply};
 ghost use Rattle.fs_model.specs.Spelled.{is_actor};
+ghost use Rattle.cluster_core.specs.Causes.{IsCaused};
 ghost use Rattle.cluster_core.specs.Creating.{new_writer};
 ghost use Rattle.cluster_core.specs.Openings.{here};
 ghost use Rattle.cluster_core.specs.Goes.{Steps};
@@ -140,6 +141,7 @@ impl<O: Objects> Core<O, O::Reader, O::Writer> {
         requires some { 0 < worker }
         ensures steps { Steps O.Objects O.Reader.ObjectRead O.Writer.ObjectWrite self.old self.new actor (Event.Create label.now path.now WriteType.MustCache worker) result }
         ensures media { MediaStays O.Objects self.old self.new }
+        ensures cause { IsCaused O.Objects O.Reader.ObjectRead O.Writer.ObjectWrite self.old self.new actor result }
     {
         if let Some(refusal) = self.create_refusal(actor, label, path, worker) {
             return Reply::Refused(refusal);

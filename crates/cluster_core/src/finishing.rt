@@ -7,6 +7,7 @@ ghost use Rattle.fs_model.specs.declared.reply.Reply.{Reply};
 ghost use Rattle.fs_model.specs.Spelled.{is_actor};
 ghost use Rattle.fs_model.specs.Lookups.{find_node};
 ghost use Rattle.inode_tree.specs.Rows.{node_of, file_row};
+ghost use Rattle.cluster_core.specs.Causes.{IsCaused, OnlyTier, TierCounted};
 ghost use Rattle.cluster_core.specs.Goes.{Steps};
 ghost use Rattle.cluster_core.specs.Media.{MediaStays};
 ghost use Rattle.cluster_core.specs.Names.{with_done};
@@ -74,6 +75,7 @@ impl<O: Objects> Core<O, O::Reader, O::Writer> {
         requires id { row.id ≡ writer.file }
         ensures steps { StepsFrom O.Objects O.Reader.ObjectRead O.Writer.ObjectWrite self.old self.new actor label writer (Event.Finish label) result }
         ensures media { MediaStays O.Objects self.old self.new }
+        ensures cause { OnlyTier (TierCounted O.Objects self.old self.new) result }
     {
         if let Some(refusal) = self.done_refusal(&writer) {
             return self.put_writer(actor, label, writer, Reply::Refused(refusal));
@@ -107,6 +109,7 @@ impl<O: Objects> Core<O, O::Reader, O::Writer> {
         requires back { MayPut self.old.hands.items actor label }
         ensures steps { StepsFrom O.Objects O.Reader.ObjectRead O.Writer.ObjectWrite self.old self.new actor label writer (Event.Finish label) result }
         ensures media { MediaStays O.Objects self.old self.new }
+        ensures cause { OnlyTier (TierCounted O.Objects self.old self.new) result }
     {
         match self.names.place_of(alloc, writer.file) {
             Err(_) => self.put_writer(actor, label, writer, Reply::Refused(Refusal::Memory)),
@@ -120,6 +123,7 @@ impl<O: Objects> Core<O, O::Reader, O::Writer> {
         requires { is_actor actor ≡ true }
         ensures steps { Steps O.Objects O.Reader.ObjectRead O.Writer.ObjectWrite self.old self.new actor (Event.Finish label.now) result }
         ensures media { MediaStays O.Objects self.old self.new }
+        ensures cause { IsCaused O.Objects O.Reader.ObjectRead O.Writer.ObjectWrite self.old self.new actor result }
     {
         match self.take_writer(actor, label) {
             None => Reply::Refused(Refusal::BadLabel),

@@ -3,6 +3,7 @@
 ghost use Rattle.std.specs.Prelude.{◌≡◌, Some, None, option_map};
 ghost use Rattle.fs_model.specs.declared.event.Event.{Event};
 ghost use Rattle.fs_model.specs.declared.reply.Reply.{Reply};
+ghost use Rattle.cluster_core.specs.Causes.{IsCaused};
 ghost use Rattle.cluster_core.specs.Tests.{mkdir_test};
 ghost use Rattle.cluster_core.specs.Goes.{Steps};
 ghost use Rattle.cluster_core.specs.Media.{MediaStays};
@@ -42,6 +43,7 @@ impl<O: Objects> Core<O, O::Reader, O::Writer> {
     pub(crate) fn mkdir(&mut self, alloc: Global, actor: Actor, path: &Path) -> Reply
         ensures steps { Steps O.Objects O.Reader.ObjectRead O.Writer.ObjectWrite self.old self.new actor (Event.Mkdir path.now) result }
         ensures media { MediaStays O.Objects self.old self.new }
+        ensures cause { IsCaused O.Objects O.Reader.ObjectRead O.Writer.ObjectWrite self.old self.new actor result }
     {
         if let Some(refusal) = self.mkdir_refusal(path) {
             return Reply::Refused(refusal);
@@ -54,7 +56,8 @@ impl<O: Objects> Core<O, O::Reader, O::Writer> {
 
     /// `ls`: the names in a directory.
     pub(crate) fn list(&self, alloc: Global, actor: Actor, path: &Path) -> Reply
-        ensures { Steps O.Objects O.Reader.ObjectRead O.Writer.ObjectWrite self.now self.now actor (Event.List path.now) result }
+        ensures steps { Steps O.Objects O.Reader.ObjectRead O.Writer.ObjectWrite self.now self.now actor (Event.List path.now) result }
+        ensures cause { IsCaused O.Objects O.Reader.ObjectRead O.Writer.ObjectWrite self.now self.now actor result }
     {
         match self.names.walk(path) {
             Walk::Absent => Reply::Refused(Refusal::NotFound),

@@ -7,6 +7,7 @@ ghost use Rattle.fs_model.specs.declared.reply.Reply.{Reply};
 ghost use Rattle.fs_model.specs.Spelled.{is_actor};
 ghost use Rattle.fs_model.specs.Words.{block_count};
 ghost use Rattle.inode_tree.specs.Rows.{file_in_row};
+ghost use Rattle.cluster_core.specs.Causes.{IsCaused};
 ghost use Rattle.cluster_core.specs.Goes.{Steps};
 ghost use Rattle.cluster_core.specs.HandChanges.{KeepsHands};
 ghost use Rattle.cluster_core.specs.Kept.{KeepsRest};
@@ -117,6 +118,7 @@ impl<O: Objects> Core<O, O::Reader, O::Writer> {
         requires { is_actor actor ≡ true }
         ensures steps { Steps O.Objects O.Reader.ObjectRead O.Writer.ObjectWrite self.old self.new actor (Event.OpenFile label.now path.now ReadType.NoCache worker) result }
         ensures media { MediaStays O.Objects self.old self.new }
+        ensures cause { IsCaused O.Objects O.Reader.ObjectRead O.Writer.ObjectWrite self.old self.new actor result }
     {
         match self.row_to_open(actor, label, path, worker) {
             Err(refusal) => Reply::Refused(refusal),

@@ -7,6 +7,7 @@ ghost use Rattle.fs_model.specs.declared.event.Fill.{Fill};
 ghost use Rattle.fs_model.specs.BytesOutcomes.{made_byte};
 ghost use Rattle.fs_model.specs.Spelled.{is_actor, is_fill};
 ghost use Rattle.file_writer.specs.Writing.{wants_room};
+ghost use Rattle.cluster_core.specs.Causes.{IsCaused};
 ghost use Rattle.cluster_core.specs.Goes.{Steps};
 ghost use Rattle.cluster_core.specs.Media.{MediaStays};
 ghost use Rattle.cluster_core.specs.Putting.{DidIn, DidPiece, DidPut, missing, put_reply};
@@ -162,6 +163,7 @@ impl<O: Objects> Core<O, O::Reader, O::Writer> {
         requires fill { is_fill fill.now ≡ true }
         ensures steps { Steps O.Objects O.Reader.ObjectRead O.Writer.ObjectWrite self.old self.new actor (Event.Put label.now fill.now) result }
         ensures media { MediaStays O.Objects self.old self.new }
+        ensures cause { IsCaused O.Objects O.Reader.ObjectRead O.Writer.ObjectWrite self.old self.new actor result }
     {
         match self.take_hand(actor, label) {
             None => Reply::Refused(Refusal::BadLabel),

@@ -5,6 +5,7 @@ ghost use Rattle.fs_model.specs.State.{Source};
 ghost use Rattle.fs_model.specs.declared.event.Event.{Event};
 ghost use Rattle.fs_model.specs.Spelled.{is_actor};
 ghost use Rattle.inode_tree.specs.Rows.{file_row};
+ghost use Rattle.cluster_core.specs.Causes.{IsCaused};
 ghost use Rattle.cluster_core.specs.Goes.{Steps};
 ghost use Rattle.cluster_core.specs.HandFits.{source_of};
 ghost use Rattle.cluster_core.specs.Kept.{KeepsRest};
@@ -181,6 +182,7 @@ impl<O: Objects> Core<O, O::Reader, O::Writer> {
         requires { is_actor actor ≡ true }
         ensures steps { Steps O.Objects O.Reader.ObjectRead O.Writer.ObjectWrite self.old self.new actor (Event.Next label.now) result }
         ensures media { MediaStays O.Objects self.old self.new }
+        ensures cause { IsCaused O.Objects O.Reader.ObjectRead O.Writer.ObjectWrite self.old self.new actor result }
     {
         match self.take_hand(actor, label) {
             None => Reply::Refused(Refusal::BadLabel),

@@ -7,6 +7,7 @@ ghost use Rattle.fs_model.specs.Spelled.{is_actor};
 ghost use Rattle.fs_model.specs.Lookups.{at_number};
 ghost use Rattle.fs_model.specs.Words.{block_count};
 ghost use Rattle.file_writer.specs.Writing.{wants_room};
+ghost use Rattle.cluster_core.specs.Causes.{IsCaused, OnlyTier, TierCounted};
 ghost use Rattle.cluster_core.specs.declared.hand.Hand.{Hand};
 ghost use Rattle.cluster_core.specs.Goes.{Steps};
 ghost use Rattle.cluster_core.specs.HandChanges.{AddsHand};
@@ -139,6 +140,7 @@ impl<O: Objects> Core<O, O::Reader, O::Writer> {
         requires back { MayPut self.old.hands.items actor label }
         ensures steps { StepsFrom O.Objects O.Reader.ObjectRead O.Writer.ObjectWrite self.old self.new actor label writer (Event.Room label) result }
         ensures media { MediaStays O.Objects self.old self.new }
+        ensures cause { OnlyTier (TierCounted O.Objects self.old self.new) result }
     {
         if let Some(refusal) = self.room_refusal(&writer) {
             return self.put_writer(actor, label, writer, Reply::Refused(refusal));
@@ -179,6 +181,7 @@ impl<O: Objects> Core<O, O::Reader, O::Writer> {
         requires { is_actor actor ≡ true }
         ensures steps { Steps O.Objects O.Reader.ObjectRead O.Writer.ObjectWrite self.old self.new actor (Event.Room label.now) result }
         ensures media { MediaStays O.Objects self.old self.new }
+        ensures cause { IsCaused O.Objects O.Reader.ObjectRead O.Writer.ObjectWrite self.old self.new actor result }
     {
         match self.take_writer(actor, label) {
             None => Reply::Refused(Refusal::BadLabel),

@@ -4,6 +4,7 @@ ghost use Rattle.std.specs.Prelude.{◌≡◌, ◌≤◌, ◌*◌, true};
 ghost use Rattle.fs_model.specs.declared.event.Event.{Event};
 ghost use Rattle.fs_model.specs.NamesOutcomes.{state_by_stored};
 ghost use Rattle.inode_tree.specs.Rows.{file_in_row};
+ghost use Rattle.cluster_core.specs.Causes.{IsCaused};
 ghost use Rattle.cluster_core.specs.Shown.{first_has, lacks_here, state_here};
 ghost use Rattle.cluster_core.specs.Goes.{Steps};
 
@@ -73,7 +74,8 @@ impl<O: Objects> Core<O, O::Reader, O::Writer> {
 
     /// `stat`: what is at the path.
     pub(crate) fn stat(&self, actor: Actor, path: &Path) -> Reply
-        ensures { Steps O.Objects O.Reader.ObjectRead O.Writer.ObjectWrite self.now self.now actor (Event.Stat path.now) result }
+        ensures steps { Steps O.Objects O.Reader.ObjectRead O.Writer.ObjectWrite self.now self.now actor (Event.Stat path.now) result }
+        ensures cause { IsCaused O.Objects O.Reader.ObjectRead O.Writer.ObjectWrite self.now self.now actor result }
     {
         match self.names.walk(path) {
             Walk::Absent => Reply::Refused(Refusal::NotFound),

@@ -3,6 +3,7 @@
 ghost use Rattle.std.specs.Prelude.{◌≡◌, true};
 ghost use Rattle.fs_model.specs.Built.{is_built};
 ghost use Rattle.fs_model.specs.Spelled.{is_actor, is_spelled};
+ghost use Rattle.cluster_core.specs.Causes.{IsCaused};
 ghost use Rattle.cluster_core.specs.Goes.{Steps};
 ghost use Rattle.cluster_core.specs.Media.{MediaStays};
 
@@ -21,6 +22,7 @@ impl<O: Objects> Core<O, O::Reader, O::Writer> {
         requires spelled { is_spelled event.now ≡ true }
         ensures steps { Steps O.Objects O.Reader.ObjectRead O.Writer.ObjectWrite self.old self.new actor event.now result }
         ensures media { MediaStays O.Objects self.old self.new }
+        ensures cause { IsCaused O.Objects O.Reader.ObjectRead O.Writer.ObjectWrite self.old self.new actor result }
     {
         match event {
             Event::Mkdir { path } => self.mkdir(alloc, actor, path),

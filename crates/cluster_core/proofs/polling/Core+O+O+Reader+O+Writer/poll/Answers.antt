@@ -1,4 +1,5 @@
 use Rattle.cluster_core.proofs.PollGo.{poll_no_label, poll_label}
+use Rattle.cluster_core.proofs.Caused.{poll_caused}
 use Rattle.cluster_core.proofs.MediaStay.{media_kept, media_then}
 use Rattle.cluster_core.proofs.polling.Core+O+O+Reader+O+Writer.poll.Goals as goal
 
@@ -18,3 +19,8 @@ returns-in-None-clause-media g c = media_kept g.O.Objects c.in-None.ensures.rest
 
 pub returns-in-Some-clause-media : goal.returns-in-Some-clause-media
 returns-in-Some-clause-media g c = media_then g.O.Objects (media_kept g.O.Objects c.in-Some.ensures.rest c.in-Some.ensures.workers) (media_kept g.O.Objects c.put_hand.ensures.rest c.put_hand.ensures.workers)
+
+pub returns-in-Some-clause-cause : goal.returns-in-Some-clause-cause
+returns-in-Some-clause-cause g c =
+    let took = c.in-Some.ensures in
+    poll_caused g.O.Objects g.O.Reader.ObjectRead g.O.Writer.ObjectWrite c.args.self.now c.take_hand.new.self c.put_hand.new.self c.args.actor c.args.label.now c.in-Some.row.label c.in-Some.row.hand c.poll_hand-gave.new.hand took.label took.taken c.put_hand.ensures.put c.take_hand.new.self.block c.args.max c.poll_hand-gave.result c.poll_hand-gave.ensures c.reply_of.result c.reply_of.ensures

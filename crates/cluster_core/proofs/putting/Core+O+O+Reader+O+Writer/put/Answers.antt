@@ -1,4 +1,5 @@
 use Rattle.cluster_core.proofs.PutGo.{absent_by, put_back_by}
+use Rattle.cluster_core.proofs.Caused.{put_caused}
 use Rattle.cluster_core.proofs.MediaStay.{media_kept, media_then}
 use Rattle.cluster_core.proofs.putting.Core+O+O+Reader+O+Writer.put.Goals as goal
 
@@ -20,3 +21,8 @@ returns-in-None-clause-media g c = media_kept g.O.Objects c.in-None.ensures.rest
 
 pub returns-in-Some-clause-media : goal.returns-in-Some-clause-media
 returns-in-Some-clause-media g c = media_then g.O.Objects (media_kept g.O.Objects c.in-Some.ensures.rest c.in-Some.ensures.workers) (media_kept g.O.Objects c.put_hand.ensures.rest c.put_hand.ensures.workers)
+
+pub returns-in-Some-clause-cause : goal.returns-in-Some-clause-cause
+returns-in-Some-clause-cause g c =
+    let took = c.in-Some.ensures in
+    put_caused g.O.Objects g.O.Reader.ObjectRead g.O.Writer.ObjectWrite c.args.self.now c.take_hand.new.self c.put_hand.new.self c.args.actor c.args.label.now c.in-Some.taken.label c.in-Some.taken.hand c.put_under-end.new.hand took.label took.taken c.put_hand.ensures.put c.take_hand.new.self.block c.args.fill.now c.put_under-end.result c.put_under-end.ensures c.reply_of.result c.reply_of.ensures

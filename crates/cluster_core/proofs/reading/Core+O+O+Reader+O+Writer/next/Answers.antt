@@ -1,4 +1,5 @@
 use Rattle.cluster_core.proofs.NextGo.{next_no_label, next_label}
+use Rattle.cluster_core.proofs.Caused.{next_caused}
 use Rattle.cluster_core.proofs.MediaStay.{media_kept, media_then, media_sought}
 use Rattle.cluster_core.proofs.reading.Core+O+O+Reader+O+Writer.next.Goals as goal
 
@@ -19,3 +20,8 @@ returns-in-None-clause-media g c = media_kept g.O.Objects c.in-None.ensures.rest
 
 pub returns-in-Some-clause-media : goal.returns-in-Some-clause-media
 returns-in-Some-clause-media g c = media_then g.O.Objects (media_kept g.O.Objects c.in-Some.ensures.rest c.in-Some.ensures.workers) (media_then g.O.Objects (media_sought g.O.Objects g.O.Reader.ObjectRead c.take_hand.new.self.names.nodes c.take_hand.new.self.block c.in-Some.row.hand c.seek_hand-found.new.hand c.seek_hand-found.result c.seek_hand-found.ensures.rest c.seek_hand-found.ensures.found) (media_kept g.O.Objects c.put_hand.ensures.rest c.put_hand.ensures.workers))
+
+pub returns-in-Some-clause-cause : goal.returns-in-Some-clause-cause
+returns-in-Some-clause-cause g c =
+    let took = c.in-Some.ensures in
+    next_caused g.O.Objects g.O.Reader.ObjectRead g.O.Writer.ObjectWrite c.args.self.now c.take_hand.new.self c.seek_hand-found.new.self c.put_hand.new.self c.args.actor took.workers c.put_hand.ensures.workers c.take_hand.new.self.names.nodes c.take_hand.new.self.block c.in-Some.row.hand c.seek_hand-found.new.hand c.seek_hand-found.result c.seek_hand-found.ensures.found c.found_reply.result c.found_reply.ensures
