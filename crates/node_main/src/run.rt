@@ -482,10 +482,12 @@ fn run_to_end<W: World>(alloc: Global, words: &[String], world: &mut W) -> End
 /// | 6 | none | only where the output failed; it then took a front of the lines, or a front of the line of another status, whose row holds |
 /// | 8 | `stopped 8 Memory` | want of memory; the lines of the first events may stand before it |
 /// | 9 | `stopped 9 TooLong` | exactly where the script has more than 16 MiB |
-/// | 10 | `stopped 10 OpenFault` | only where opening an input failed, or nothing is held under a name |
+/// | 10 | `stopped 10 OpenFault` | only where opening an input, or lending the stores and tiers, failed, or nothing is held under a name |
+/// | 3, 7, 11 | `stopped 3 BadConfig store`, `stopped 7 Damaged AREA PLACE`, `stopped 11 JournalFault` | never yet |
 ///
 /// Each "exactly where" yields to a fault or want of memory that comes before. The inputs stay as the world holds
-/// them under their names.
+/// them under their names. The stores and tiers are lent once the script is read, and given back once, as the play
+/// left them; a caller shows that none is lent.
 pub fn run<W: World>(alloc: Global, words: &[String], world: &mut W) -> u8
     requires { W.lent world.old ≡ None }
 
@@ -507,6 +509,9 @@ pub fn run<W: World>(alloc: Global, words: &[String], world: &mut W) -> u8
 
     ensures memory { result ≡ 8 → Stops W.Store.Objects W.Store.Reader.ObjectRead W.Store.Writer.ObjectWrite (W.shelf world.old) (W.shelf world.new) (W.held world.old) (map string_bytes words.now) End.Memory (W.Out.taken (W.output world.old)) (W.Out.taken (W.output world.new)) }
     ensures long { result ≡ 9 → IsSomeAnd (play_words (map string_bytes words.now)) (λ names. IsLonger (W.held world.old) names.1 LIMIT) × Takes (W.Out.taken (W.output world.old)) (W.Out.taken (W.output world.new)) (end_text End.TooLong) × (W.shelf world.new ≡ W.shelf world.old) }
+
+    // No opening finds a bad setup or a damaged area yet, and no journal fails.
+    ensures never { (result ≡ 3) ⊎ (result ≡ 7) ⊎ (result ≡ 11) → ⊥ }
 
     // Where the world tells, the end is the one that is due by what it holds, or want of memory, or a fault whose count rose.
     ensures due { IfSome (W.held world.old) (λ held. (end : End) × (result ≡ status_of end) × IsDue held (map string_bytes words.now) (Rose (W.faults world.old) (W.faults world.new)) (Rose (W.In.faults (W.script_input world.old)) (W.In.faults (W.script_input world.new))) (Rose (W.Out.faults (W.output world.old)) (W.Out.faults (W.output world.new))) end) }

@@ -1,7 +1,7 @@
 ghost use Rattle.std.specs.Prelude.{◌≡◌, IfOk, None};
 
 use crate::run::run;
-use outside::memory::{Failing, MemWorld};
+use outside::memory::{ByNumber, Failing, MemObjects, MemWorld};
 use std::alloc::Global;
 use std::test::Fail;
 
@@ -171,6 +171,141 @@ fn an_input_that_is_not_there_ends_the_run(rt: HostRuntime) -> Result<(), Fail> 
     let alloc = rt.alloc();
     let mut world = MemWorld::new(alloc);
     world.hold("s", b"1 ls /\n")?;
+    let (status, written) = played_in(alloc, world)?;
+    assert_eq!(rt; status, 10);
+    assert_eq!(rt; written.as_slice(), b"stopped 10 OpenFault\n".as_slice());
+    Ok(())
+}
+
+/// A file without bytes: made, read, and shown.
+const EMPTY: &str = "1 create f /e MUST_CACHE 1 -> done
+1 done f -> done
+1 open r /e NO_CACHE 0 -> opened 0
+1 poll r 10 -> end
+1 close r -> done
+1 stat /e -> stat file 1 0 NOT_PERSISTED -
+";
+
+/// A file of two blocks, written and read back.
+const TWO_BLOCKS: &str = "1 create f /t MUST_CACHE 1 -> done
+1 put f g:0:0:8 -> needroom
+1 room f -> done
+1 put f g:0:0:8 -> taken 4
+1 put f g:0:4:4 -> needroom
+1 room f -> done
+1 put f g:0:4:4 -> taken 4
+1 done f -> done
+1 open r /t NO_CACHE 0 -> opened 8
+1 poll r 65536 -> needblock 0
+1 next r -> from worker 1 0
+1 poll r 65536 -> piece 00010203
+1 poll r 65536 -> needblock 1
+1 next r -> from worker 1 0
+1 poll r 65536 -> piece 04050607
+1 poll r 65536 -> end
+1 close r -> done
+";
+
+/// A file that is opened before it is done, and a label that ended.
+const TOO_EARLY: &str = "1 create f /a MUST_CACHE 1 -> done
+1 open r /a NO_CACHE 0 -> refused 7 Incomplete
+1 done f -> done
+1 open r /a NO_CACHE 0 -> opened 0
+1 next r -> end
+1 put f x:00 -> refused 19 BadLabel
+";
+
+/// A file whose first poll isn't ready.
+const NOT_READY: &str = "1 create f /a MUST_CACHE 1 -> done
+1 put f g:0:0:4 -> needroom
+1 room f -> done
+1 put f g:0:0:4 -> taken 4
+1 done f -> done
+1 open r /a NO_CACHE 0 -> opened 4
+1 next r -> from worker 1 0
+1 poll r 4 -> notready
+1 poll r 4 -> piece 00010203
+";
+
+/// The script of lines: each without its reply.
+fn script_of(alloc: Global, lines: &str) -> Result<Vec<u8>, Fail> {
+    let mut script = Vec::new(alloc);
+    for line in lines.lines() {
+        let (event, _) = line.split_once(" -> ").ok_or("a line without a reply")?;
+        script.extend_from_slice(event.as_bytes())?;
+        script.push(b'\n')?;
+    }
+    Ok(script)
+}
+
+#[test]
+fn files_are_written_and_read(rt: HostRuntime) -> Result<(), Fail> {
+    let alloc = rt.alloc();
+    for text in [EMPTY, TWO_BLOCKS, TOO_EARLY] {
+        let script = script_of(alloc, text)?;
+        let (status, written) = played(alloc, &script)?;
+        assert_eq!(rt; status, 0);
+        assert_eq!(rt; written.as_slice(), text.as_bytes());
+    }
+    Ok(())
+}
+
+/// The lines of 64 files that actor 1 makes under 64 labels, and of two more, of which only actor 2's is made.
+fn many_labels(alloc: Global) -> Result<Vec<u8>, Fail> {
+    let mut lines = Vec::new(alloc);
+    for number in 1..65u32 {
+        let text = number.to_string(alloc)?;
+        lines.extend_from_slice(b"1 create f")?;
+        lines.extend_from_slice(text.as_bytes())?;
+        lines.extend_from_slice(b" /f")?;
+        lines.extend_from_slice(text.as_bytes())?;
+        lines.extend_from_slice(b" MUST_CACHE 1 -> done\n")?;
+    }
+    lines.extend_from_slice(b"1 create z /z MUST_CACHE 1 -> refused 22 Limit Labels\n")?;
+    lines.extend_from_slice(b"2 create z /z MUST_CACHE 1 -> done\n")?;
+    Ok(lines)
+}
+
+#[test]
+fn an_actor_has_64_labels_at_most(rt: HostRuntime) -> Result<(), Fail> {
+    let alloc = rt.alloc();
+    let lines = many_labels(alloc)?;
+    let text = str::from_utf8(&lines).map_err(|_| "no text")?;
+    let script = script_of(alloc, text)?;
+    let (status, written) = played(alloc, &script)?;
+    assert_eq!(rt; status, 0);
+    assert_eq!(rt; written.as_slice(), lines.as_slice());
+    Ok(())
+}
+
+/// A tier whose first reader's first poll isn't ready.
+fn waiting_tier(alloc: Global) -> Result<MemObjects, Fail> {
+    let mut tier = MemObjects::new(alloc);
+    let first = ByNumber {
+        number: 1,
+        failing: Failing::listed(alloc, &[1])?,
+    };
+    tier.calls.waiting_polls.push(first)?;
+    Ok(tier)
+}
+
+#[test]
+fn a_reader_that_is_not_ready_goes_on(rt: HostRuntime) -> Result<(), Fail> {
+    let alloc = rt.alloc();
+    let script = script_of(alloc, NOT_READY)?;
+    let mut world = world_of(alloc, &script)?;
+    world.hold_store("m1", waiting_tier(alloc)?)?;
+    let (status, written) = played_in(alloc, world)?;
+    assert_eq!(rt; status, 0);
+    assert_eq!(rt; written.as_slice(), NOT_READY.as_bytes());
+    Ok(())
+}
+
+#[test]
+fn stores_that_cannot_be_lent_end_the_run(rt: HostRuntime) -> Result<(), Fail> {
+    let alloc = rt.alloc();
+    let mut world = world_of(alloc, b"1 ls /\n")?;
+    world.assemble_failing = Failing::listed(alloc, &[1])?;
     let (status, written) = played_in(alloc, world)?;
     assert_eq!(rt; status, 10);
     assert_eq!(rt; written.as_slice(), b"stopped 10 OpenFault\n".as_slice());
