@@ -1,5 +1,5 @@
 -- Why events answer faults and waits, whatever the core stands for: each event's answer is a line of these.
-use Rattle.std.proofs.Common.{◌≡◌, ℕ, pred, false, List, get_or, Option, Some, None, inl, inr, refl, sym, ap, subst}
+use Rattle.std.proofs.Common.{◌≡◌, ℕ, ◌<◌, arith, pred, false, List, get_or, Option, Some, None, inl, inr, refl, sym, ap, subst}
 use Rattle.std.specs.Prelude.{IsSomeAnd, slice_get}
 use Rattle.fs_model.specs.declared.event.Fill.{Fill}
 use Rattle.fs_model.specs.declared.reply.Reply.{Reply}
@@ -76,25 +76,25 @@ module _ {S R W : Type 0} (o : objects.Ghosts S R W) where
   counted_after k n m len stay h = let found = there (fitting n.book len) h.1 in (found.0, at_more k.tiers.items m.tiers.items found.0 (λ s u rose. inl rose) (rose_later o found.0 k n m stay.same_length stay.faults found.1.at))
 
   -- a worker failed to make a reservation, after calls in which no count fell
-  failed_after : {w : writes.Ghosts W} (a b c : Core S R W w) (v len : ℕ) → MediaStays o a b → ChangesAt b.workers.items c.workers.items (pred v) (FailsNode o len) → TierCounted o a c v
-  failed_after a b c v len stays change =
+  failed_after : {w : writes.Ghosts W} (a b c : Core S R W w) (v len : ℕ) → 0 < v → MediaStays o a b → ChangesAt b.workers.items c.workers.items (pred v) (FailsNode o len) → TierCounted o a c v
+  failed_after a b c v len some stays change =
       let i = pred v in
       let both = both_there (slice_get b.workers.items i) (slice_get c.workers.items i) change.at in
       let k = get_or a.workers.items i both.0 in
       let was : slice_get a.workers.items i ≡ Some k = still_there b.workers.items a.workers.items i both.0 (sym stays.workers.same_length) both.2 in
       let counted = counted_after k both.0 both.1 len (stays.workers.each i k both.0 was both.2) both.4 in
-      subst (λ x. IsSomeAnd x (λ n. IsSomeAnd (slice_get c.workers.items i) (λ m. NodeCounted o n m))) (sym was) (subst (λ x. IsSomeAnd x (λ m. NodeCounted o k m)) (sym both.3) counted)
+      (some, subst (λ x. IsSomeAnd x (λ n. IsSomeAnd (slice_get c.workers.items i) (λ m. NodeCounted o n m))) (sym was) (subst (λ x. IsSomeAnd x (λ m. NodeCounted o k m)) (sym both.3) counted))
 
   -- so it is between cores with the same workers
   counted_within : {w : writes.Ghosts W} (a b c d : Core S R W w) (v : ℕ) → b.workers ≡ a.workers → d.workers ≡ c.workers → TierCounted o b c v → TierCounted o a d v
-  counted_within a b c d v before after h = subst (λ x. At x.items d.workers.items (pred v) (NodeCounted o)) before (subst (λ x. At b.workers.items x.items (pred v) (NodeCounted o)) (sym after) h)
+  counted_within a b c d v before after h = (h.0, subst (λ x. At x.items d.workers.items (pred v) (NodeCounted o)) before (subst (λ x. At b.workers.items x.items (pred v) (NodeCounted o)) (sym after) h.1))
 
   -- so is the answer of a writer that was put back then, after the commit of its block
-  pub room_caused : {w : writes.Ghosts W} (a b c d : Core S R W w) (x y : Writer W) → y ≡ closed_writer false x → MediaStays o a b → (len : ℕ) → ChangesAt b.workers.items c.workers.items (pred y.worker) (FailsNode o len) → d.workers ≡ c.workers → (reply : Reply) → reply ≡ Reply.Refused (Refusal.TierFault x.worker) → OnlyTier (TierCounted o a d) reply
-  room_caused a b c d x y closed stays len change after reply is =
+  pub room_caused : {w : writes.Ghosts W} (a b c d : Core S R W w) (x y : Writer W) → 0 < x.worker → y ≡ closed_writer false x → MediaStays o a b → (len : ℕ) → ChangesAt b.workers.items c.workers.items (pred y.worker) (FailsNode o len) → d.workers ≡ c.workers → (reply : Reply) → reply ≡ Reply.Refused (Refusal.TierFault x.worker) → OnlyTier (TierCounted o a d) reply
+  room_caused a b c d x y some closed stays len change after reply is =
       let same : y.worker ≡ x.worker = ap (λ z. z.worker) closed in
       let here = subst (λ k. ChangesAt b.workers.items c.workers.items (pred k) (FailsNode o len)) same change in
-      subst (OnlyTier (TierCounted o a d)) (sym is) (counted_within a a c d x.worker refl after (failed_after a b c x.worker len stays here))
+      subst (OnlyTier (TierCounted o a d)) (sym is) (counted_within a a c d x.worker refl after (failed_after a b c x.worker len some stays here))
 
   -- ---- a search for a source
 
@@ -102,14 +102,14 @@ module _ {S R W : Type 0} (o : objects.Ghosts S R W) where
     row_counted : (f i at len : ℕ) (n m : Node S) → FailsRow o r f i at len n m → NodeCounted o n m
     row_counted f i at len n m h = let found = there (copy_at f i (Some n)) h in (found.0.tier, at_more n.tiers.items m.tiers.items found.0.tier (short_counts _ _) found.1.at)
 
-    stream_sought : (rows : List NodeRow) (bs : ℕ) (old new : List (Node S)) (x y : Stream R) (gave : Found) → SeeksOf o r rows bs old new x y gave → OnlyTier (λ v. At old new (pred v) (NodeCounted o)) (found_reply gave)
-    stream_sought rows bs old new x y Found.Fault h = at_more old new 0 (row_counted _ _ _ _) h.2.at
+    stream_sought : (rows : List NodeRow) (bs : ℕ) (old new : List (Node S)) (x y : Stream R) (gave : Found) → SeeksOf o r rows bs old new x y gave → OnlyTier (λ v. (0 < v) × At old new (pred v) (NodeCounted o)) (found_reply gave)
+    stream_sought rows bs old new x y Found.Fault h = (omega arith, at_more old new 0 (row_counted _ _ _ _) h.2.at)
     stream_sought rows bs old new x y gave h = tt
 
-    hand_sought : (rows : List NodeRow) (bs : ℕ) (old new : List (Node S)) (h k : Hand R W) (gave : Found) → HandSeeks o r rows bs old new h k gave → OnlyTier (λ v. At old new (pred v) (NodeCounted o)) (found_reply gave)
+    hand_sought : (rows : List NodeRow) (bs : ℕ) (old new : List (Node S)) (h k : Hand R W) (gave : Found) → HandSeeks o r rows bs old new h k gave → OnlyTier (λ v. (0 < v) × At old new (pred v) (NodeCounted o)) (found_reply gave)
     hand_sought rows bs old new (Hand.Reading x) (Hand.Reading y) gave h = stream_sought rows bs old new x y gave h
     hand_sought rows bs old new (Hand.Reading x) (Hand.Writing y) gave h = absurd h
-    hand_sought rows bs old new (Hand.Writing x) k gave h = subst (λ g. OnlyTier (λ v. At old new (pred v) (NodeCounted o)) (found_reply g)) (sym h.1) tt
+    hand_sought rows bs old new (Hand.Writing x) k gave h = subst (λ g. OnlyTier (λ v. (0 < v) × At old new (pred v) (NodeCounted o)) (found_reply g)) (sym h.1) tt
 
 -- ---- events
 

@@ -1,5 +1,5 @@
 -- Why an event answers a fault or a wait, whatever the core stands for.
-use Rattle.std.specs.Prelude.{ℕ, ⊤, ◌⊎◌, List, pred}
+use Rattle.std.specs.Prelude.{ℕ, ◌<◌, ⊤, ◌⊎◌, List, pred}
 use Rattle.fs_model.specs.declared.reply.Reply.{Reply}
 use Rattle.fs_model.specs.declared.reply.Refusal.{Refusal}
 use Rattle.outside.specs.declared.objects.Objects as objects
@@ -24,9 +24,9 @@ module _ {S R W : Type 0} (o : objects.Ghosts S R W) where
   abbrev pub NodeCounted : Node S → Node S → Type 0
   NodeCounted n m = (t : ℕ) × At n.tiers.items m.tiers.items t (Counts o)
 
-  -- so it is with the worker of this number
+  -- so it is with the worker of this number, which counts from 1
   abbrev pub TierCounted : {w : writes.Ghosts W} → Core S R W w → Core S R W w → ℕ → Type 0
-  TierCounted old new v = At old.workers.items new.workers.items (pred v) NodeCounted
+  TierCounted old new v = (0 < v) × At old.workers.items new.workers.items (pred v) NodeCounted
 
 module _ {S R W : Type 0} (o : objects.Ghosts S R W) (r : reads.Ghosts R) (w : writes.Ghosts W) where
   -- the label has a writer with an object in this store, and the count of the object's writer rose

@@ -57,4 +57,4 @@ pub returns-in-Err-Failed-open_block-clause-media : goal.returns-in-Err-Failed-o
 returns-in-Err-Failed-open_block-clause-media g c = media_then g.O.Objects c.in-Ok.ensures.media (media_then g.O.Objects (media_failed g.O.Objects c.commit_block.new.writer.bytes.bs c.in-Err-Failed-open_block.ensures.rest (c.in-Err-Failed-open_block.ensures.failed (ap Err c.in-Err-Failed-open_block.field-0-is))) (media_kept g.O.Objects c.put_writer-in-Err-Failed-open_block.ensures.rest c.put_writer-in-Err-Failed-open_block.ensures.workers))
 
 pub returns-in-Err-Failed-open_block-clause-cause : goal.returns-in-Err-Failed-open_block-clause-cause
-returns-in-Err-Failed-open_block-clause-cause g c = room_caused g.O.Objects c.args.self.now c.commit_block.new.self c.open_block.new.self c.put_writer-in-Err-Failed-open_block.new.self c.args.writer c.commit_block.new.writer c.in-Ok.ensures.closed c.in-Ok.ensures.media c.commit_block.new.writer.bytes.bs (c.in-Err-Failed-open_block.ensures.failed (ap Err c.in-Err-Failed-open_block.field-0-is)) c.put_writer-in-Err-Failed-open_block.ensures.workers c.put_writer-in-Err-Failed-open_block.result c.put_writer-in-Err-Failed-open_block.ensures.reply
+returns-in-Err-Failed-open_block-clause-cause g c = room_caused g.O.Objects c.args.self.now c.commit_block.new.self c.open_block.new.self c.put_writer-in-Err-Failed-open_block.new.self c.args.writer c.commit_block.new.writer c.in_default.ensures.some c.in-Ok.ensures.closed c.in-Ok.ensures.media c.commit_block.new.writer.bytes.bs (c.in-Err-Failed-open_block.ensures.failed (ap Err c.in-Err-Failed-open_block.field-0-is)) c.put_writer-in-Err-Failed-open_block.ensures.workers c.put_writer-in-Err-Failed-open_block.result c.put_writer-in-Err-Failed-open_block.ensures.reply
