@@ -1,7 +1,6 @@
 -- What a script's play says of the run that it belongs to.
 use Rattle.std.proofs.Common.{◌≡◌, ℕ, List, Option, Some, None, Result, Ok, Err, ◌⊎◌, inl, inr, refl, sym, subst}
 use Rattle.std.specs.Prelude.{IsSomeAnd, IfSome, OnOk}
-use Rattle.fs_model.specs.State.{Whole}
 use Rattle.fs_model.specs.declared.stop.Stop.{Stop}
 use Rattle.outside.specs.Inputs.{named}
 use Rattle.outside.specs.Shelf.{Shelf}
@@ -78,7 +77,7 @@ of_play read end (inr (inr (inr e))) = subst IsOfPlay (sym e) IsOfPlay.unopened
 
 module _ {S R W : Type 0} (o : objects.Ghosts S R W) (r : reads.Ghosts R) (w : writes.Ghosts W) (old new : Option Shelf) where
   -- commands of a script are also those of what it was read from
-  pub so_for : (T : List Command → Whole → Core S R W w → Core S R W w → Type 0) (P Q : List Command → Type 0) → ((commands : List Command) → P commands → Q commands) → PlaysSo o r w old new T P → PlaysSo o r w old new T Q
+  pub so_for : (T : List Command → Core S R W w → Core S R W w → Type 0) (P Q : List Command → Type 0) → ((commands : List Command) → P commands → Q commands) → PlaysSo o r w old new T P → PlaysSo o r w old new T Q
   so_for T P Q f p = record { commands = p.commands; script = f p.commands p.script; lent = p.lent; held = p.held; played = p.played }
 
   module _ (held : Option Held) (words : List (List ℕ)) (names : List ℕ × List ℕ) (are : Some names ≡ play_words words) (text : List ℕ) (is : Holds held names.1 (λ h. text ≡ h)) (before after : Option (List ℕ)) (world input sink : Type 0) where

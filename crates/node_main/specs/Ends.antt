@@ -2,9 +2,7 @@
 use Rattle.std.specs.Prelude.{ℕ, ◌≡◌, ◌⊎◌, ◌<◌, length, nat_lt, take, ⊤, List, [], ◌∷◌, ◌++◌, codes, IsSomeAnd, IsTrue, Result, Ok, Err, Option, Some, None, if◌then◌else◌}
 use Rattle.std.specs.Fmt.{decimal}
 use Rattle.fs_model.specs.declared.setup.Setup.{Setup}
-use Rattle.fs_model.specs.State.{Whole}
 use Rattle.fs_model.specs.declared.stop.Stop.{Stop}
-use Rattle.fs_model.specs.Begins.{Begins}
 use Rattle.fs_model.specs.Examples.{two_workers}
 use Rattle.outside.specs.Inputs.{named, is_missed}
 use Rattle.outside.specs.Shelf.{EachNamed, HasShape, NameLists, Shelf, TellsHeld}
@@ -17,7 +15,6 @@ use Rattle.script_text.specs.declared.script.Command.{Command}
 use Rattle.script_text.specs.declared.read.ScriptFault.{ScriptFault}
 use Rattle.script_text.specs.declared.read.ScriptFault.TheVariants.{BadLine, Memory}
 use Rattle.script_text.specs.ScriptText.{read_script}
-use Rattle.cluster_core.specs.Begun.{TiersEmpty}
 use Rattle.cluster_core.specs.declared.cluster.Core.{Core}
 use Rattle.play_run.specs.Play.{Between, Tells, TellsFront, TellsPartly}
 use Rattle.node_main.specs.declared.run.End.{End}
@@ -138,16 +135,16 @@ module _ {S R W : Type 0} (o : objects.Ghosts S R W) (r : reads.Ghosts R) (w : w
     pub shape : HasShape media_names media
     pub each : EachNamed (TellsHeld o.told shelf) media_names media
 
-  -- media that were lent were given back as a play left them, to a world that holds this then; whatever state the play began with, P holds from the core at its beginning to the one at its end
-  pub record GivesBack (U : Setup) (shelf : Option Shelf) (P : Whole → Core S R W w → Core S R W w → Type 0) (lent : Media S) : Type 0 where
+  -- media that were lent were given back as a play left them, to a world that holds this then; P holds from the core at its beginning to the one at its end
+  pub record GivesBack (U : Setup) (shelf : Option Shelf) (P : Core S R W w → Core S R W w → Type 0) (lent : Media S) : Type 0 where
     pub back : Media S
     pub held : IsHeld shelf back
-    pub lines : (V : Whole) → Begins U V → TiersEmpty o lent → Between o r w lent back (P V)
+    pub between : Between o r w U lent back P
 
 -- from here on: what the world holds of stores and tiers before and after
 module _ {S R W : Type 0} (o : objects.Ghosts S R W) (r : reads.Ghosts R) (w : writes.Ghosts W) (old new : Option Shelf) where
   -- commands of such a script were played over the example's configuration, on media that were lent and given back
-  pub record PlaysSo (P : List Command → Whole → Core S R W w → Core S R W w → Type 0) (is_script : List Command → Type 0) : Type 0 where
+  pub record PlaysSo (P : List Command → Core S R W w → Core S R W w → Type 0) (is_script : List Command → Type 0) : Type 0 where
     pub commands : List Command
     pub script : is_script commands
     pub lent : Media S
@@ -156,15 +153,15 @@ module _ {S R W : Type 0} (o : objects.Ghosts S R W) (r : reads.Ghosts R) (w : w
 
   -- they were played to their end
   abbrev pub Plays : (List Command → Type 0) → Option (List ℕ) → Option (List ℕ) → Type 0
-  Plays is_script before after = PlaysSo (λ commands V first last. Tells o r w two_workers commands V first last before after) is_script
+  Plays is_script before after = PlaysSo (λ commands first last. Tells o r w commands first last before after) is_script
 
   -- the first of them were played
   abbrev pub PlaysFront : (List Command → Type 0) → Option (List ℕ) → Option (List ℕ) → Type 0
-  PlaysFront is_script before after = PlaysSo (λ commands V first last. TellsFront o r w two_workers commands V first last before after) is_script
+  PlaysFront is_script before after = PlaysSo (λ commands first last. TellsFront o r w commands first last before after) is_script
 
   -- and a front of their lines' text was taken
   abbrev pub PlaysPartly : (List Command → Type 0) → Option (List ℕ) → Option (List ℕ) → Type 0
-  PlaysPartly is_script before after = PlaysSo (λ commands V first last. TellsPartly o r w two_workers commands V first last before after) is_script
+  PlaysPartly is_script before after = PlaysSo (λ commands first last. TellsPartly o r w commands first last before after) is_script
 
   -- no medium was lent, or they were given back as they were
   abbrev pub IsUntouched : Type 0

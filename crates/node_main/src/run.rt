@@ -3,9 +3,7 @@
 ghost use Rattle.std.specs.Prelude.{◌≡◌, ◌≢◌, ◌≤◌, ◌<◌, ◌+◌, ◌⊎◌, ℕ, List, true, IfOk, IfErr, IfSome, IsSomeAnd, IsTrue, OnOk, OnErr, Ok, Err, None, Some, [], ◌∷◌, option_map, map, length, take};
 ghost use Rattle.std.specs.String.{string_bytes};
 ghost use Rattle.std.specs.List.{list_all};
-ghost use Rattle.fs_model.specs.State.{Whole};
 ghost use Rattle.fs_model.specs.declared.stop.Stop.{Stop};
-ghost use Rattle.fs_model.specs.Begins.{Begins};
 ghost use Rattle.fs_model.specs.Examples.{two_workers};
 ghost use Rattle.fs_model.specs.Spelled.{is_setup};
 ghost use Rattle.outside.specs.Causes.{Rose};
@@ -14,7 +12,7 @@ ghost use Rattle.outside.specs.Shelf.{HasShape, KeepsBut, all_names, name_lists}
 ghost use Rattle.outside.specs.Streams.{Gives, GivesAll, Takes};
 ghost use Rattle.script_text.specs.ScriptText.{read_script};
 ghost use Rattle.script_text.specs.Commands.{is_command};
-ghost use Rattle.cluster_core.specs.Begun.{MediaFit, TiersEmpty};
+ghost use Rattle.cluster_core.specs.Begun.{MediaFit};
 ghost use Rattle.play_run.specs.Play.{Between, Tells, TellsFront, TellsPartly};
 ghost use Rattle.script_text.specs.declared.read.ScriptFault.TheVariants.{BadLine};
 ghost use Rattle.node_main.specs.Words.{is_file_word, play_words};
@@ -224,9 +222,9 @@ fn play_out<W: World>(
     requires commands { list_all is_command script.now ≡ true }
     requires fit { MediaFit setup.now media }
     requires shape { HasShape media_names media }
-    ensures done { OnOk result.0 ((V : Whole) → Begins setup.now V → TiersEmpty W.Store.Objects media → Between W.Store.Objects W.Store.Reader.ObjectRead W.Store.Writer.ObjectWrite media result.1 (λ first last. Tells W.Store.Objects W.Store.Reader.ObjectRead W.Store.Writer.ObjectWrite setup.now script.now V first last (W.Out.taken (W.output world.old)) (W.Out.taken (W.output world.new)))) }
-    ensures partly { result.0 ≡ Err Stop.WriteFault → ((V : Whole) → Begins setup.now V → TiersEmpty W.Store.Objects media → Between W.Store.Objects W.Store.Reader.ObjectRead W.Store.Writer.ObjectWrite media result.1 (λ first last. TellsPartly W.Store.Objects W.Store.Reader.ObjectRead W.Store.Writer.ObjectWrite setup.now script.now V first last (W.Out.taken (W.output world.old)) (W.Out.taken (W.output world.new)))) }
-    ensures memory { result.0 ≡ Err Stop.Memory → ((result.1 ≡ media) × (W.output world.new ≡ W.output world.old)) ⊎ ((V : Whole) → Begins setup.now V → TiersEmpty W.Store.Objects media → Between W.Store.Objects W.Store.Reader.ObjectRead W.Store.Writer.ObjectWrite media result.1 (λ first last. TellsFront W.Store.Objects W.Store.Reader.ObjectRead W.Store.Writer.ObjectWrite setup.now script.now V first last (W.Out.taken (W.output world.old)) (W.Out.taken (W.output world.new)))) }
+    ensures done { OnOk result.0 (Between W.Store.Objects W.Store.Reader.ObjectRead W.Store.Writer.ObjectWrite setup.now media result.1 (λ first last. Tells W.Store.Objects W.Store.Reader.ObjectRead W.Store.Writer.ObjectWrite script.now first last (W.Out.taken (W.output world.old)) (W.Out.taken (W.output world.new)))) }
+    ensures partly { result.0 ≡ Err Stop.WriteFault → (Between W.Store.Objects W.Store.Reader.ObjectRead W.Store.Writer.ObjectWrite setup.now media result.1 (λ first last. TellsPartly W.Store.Objects W.Store.Reader.ObjectRead W.Store.Writer.ObjectWrite script.now first last (W.Out.taken (W.output world.old)) (W.Out.taken (W.output world.new)))) }
+    ensures memory { result.0 ≡ Err Stop.Memory → ((result.1 ≡ media) × (W.output world.new ≡ W.output world.old)) ⊎ (Between W.Store.Objects W.Store.Reader.ObjectRead W.Store.Writer.ObjectWrite setup.now media result.1 (λ first last. TellsFront W.Store.Objects W.Store.Reader.ObjectRead W.Store.Writer.ObjectWrite script.now first last (W.Out.taken (W.output world.old)) (W.Out.taken (W.output world.new)))) }
     ensures write { result.0 ≡ Err Stop.WriteFault → Rose (W.Out.faults (W.output world.old)) (W.Out.faults (W.output world.new)) }
     ensures ends { IfErr result.0 (λ why. (why ≡ Stop.Memory) ⊎ (why ≡ Stop.WriteFault)) }
     ensures shape { HasShape media_names result.1 }
@@ -252,9 +250,9 @@ fn play_lent<W: World>(
     requires commands { list_all is_command script.now ≡ true }
     requires shape { HasShape media_names media }
     requires lent { W.lent world.old ≡ Some media_names }
-    ensures done { result ≡ End.Done → GivesBack W.Store.Objects W.Store.Reader.ObjectRead W.Store.Writer.ObjectWrite setup.now (W.shelf world.new) (λ V first last. Tells W.Store.Objects W.Store.Reader.ObjectRead W.Store.Writer.ObjectWrite setup.now script.now V first last (W.Out.taken (W.output world.old)) (W.Out.taken (W.output world.new))) media }
-    ensures partly { result ≡ End.WriteFault → GivesBack W.Store.Objects W.Store.Reader.ObjectRead W.Store.Writer.ObjectWrite setup.now (W.shelf world.new) (λ V first last. TellsPartly W.Store.Objects W.Store.Reader.ObjectRead W.Store.Writer.ObjectWrite setup.now script.now V first last (W.Out.taken (W.output world.old)) (W.Out.taken (W.output world.new))) media }
-    ensures memory { result ≡ End.Memory → ((W.Out.taken (W.output world.new) ≡ W.Out.taken (W.output world.old)) × IsHeld W.Store.Objects W.Store.Reader.ObjectRead W.Store.Writer.ObjectWrite (W.shelf world.new) media) ⊎ GivesBack W.Store.Objects W.Store.Reader.ObjectRead W.Store.Writer.ObjectWrite setup.now (W.shelf world.new) (λ V first last. TellsFront W.Store.Objects W.Store.Reader.ObjectRead W.Store.Writer.ObjectWrite setup.now script.now V first last (W.Out.taken (W.output world.old)) (W.Out.taken (W.output world.new))) media }
+    ensures done { result ≡ End.Done → GivesBack W.Store.Objects W.Store.Reader.ObjectRead W.Store.Writer.ObjectWrite setup.now (W.shelf world.new) (λ first last. Tells W.Store.Objects W.Store.Reader.ObjectRead W.Store.Writer.ObjectWrite script.now first last (W.Out.taken (W.output world.old)) (W.Out.taken (W.output world.new))) media }
+    ensures partly { result ≡ End.WriteFault → GivesBack W.Store.Objects W.Store.Reader.ObjectRead W.Store.Writer.ObjectWrite setup.now (W.shelf world.new) (λ first last. TellsPartly W.Store.Objects W.Store.Reader.ObjectRead W.Store.Writer.ObjectWrite script.now first last (W.Out.taken (W.output world.old)) (W.Out.taken (W.output world.new))) media }
+    ensures memory { result ≡ End.Memory → ((W.Out.taken (W.output world.new) ≡ W.Out.taken (W.output world.old)) × IsHeld W.Store.Objects W.Store.Reader.ObjectRead W.Store.Writer.ObjectWrite (W.shelf world.new) media) ⊎ GivesBack W.Store.Objects W.Store.Reader.ObjectRead W.Store.Writer.ObjectWrite setup.now (W.shelf world.new) (λ first last. TellsFront W.Store.Objects W.Store.Reader.ObjectRead W.Store.Writer.ObjectWrite script.now first last (W.Out.taken (W.output world.old)) (W.Out.taken (W.output world.new))) media }
     ensures write { result ≡ End.WriteFault → Rose (W.Out.faults (W.output world.old)) (W.Out.faults (W.output world.new)) }
     ensures ends { (result ≡ End.Done) ⊎ (result ≡ End.WriteFault) ⊎ (result ≡ End.Memory) }
     ensures later { W.Out.faults (W.output world.old) ≤ W.Out.faults (W.output world.new) }

@@ -15,11 +15,12 @@ use Rattle.outside.specs.declared.objects.ObjectWrite as writes
 use Rattle.outside.proofs.Known.{Takes-nil, Takes-trans}
 use Rattle.script_text.specs.declared.script.Command.{Command}
 use Rattle.script_text.specs.LineText.{line_text, lines_text}
+use Rattle.cluster_core.specs.Causes.{IsCaused}
 use Rattle.cluster_core.specs.Goes.{Rises}
 use Rattle.cluster_core.specs.Media.{MediaStays}
 use Rattle.cluster_core.specs.Stands.{Stands}
 use Rattle.cluster_core.specs.declared.cluster.Core.{Core}
-use Rattle.play_run.specs.Play.{Says, Played, Acts, Ran, QuietRuns, Tells, TellsFront, TellsPartly}
+use Rattle.play_run.specs.Play.{Says, Played, Acts, CausedAlong, Lines, QuietRuns, Ran, Tells, TellsFront, TellsPartly}
 use Rattle.play_run.specs.Sums.{RiseAlong}
 use Rattle.play_run.proofs.Sums.{run_faults, run_waits, sums}
 
@@ -64,19 +65,23 @@ next_command cs i c lt at = ap (λ (x : Command). take i cs ++ x ∷ []) at ∙ 
 
 -- ---- runs
 
-module _ {S R W : Type 0} (o : objects.Ghosts S R W) (r : reads.Ghosts R) (w : writes.Ghosts W) (U : Setup) where
+module _ {S R W : Type 0} (o : objects.Ghosts S R W) (r : reads.Ghosts R) (w : writes.Ghosts W) where
   rise_more : (ls : List Line) (seen : List Observation) (l : Line) (x : Observation) (old mid new : Core S R W w) → RiseAlong o r w old ls seen mid → Rises o r w mid new l.actor x.rise → MediaStays o mid new → RiseAlong o r w old (ls ++ l ∷ []) (seen ++ x ∷ []) new
   rise_more [] [] l x old mid new along h stays = (new, subst (λ (y : Core S R W w). Rises o r w y new l.actor x.rise) along h, subst (λ (y : Core S R W w). MediaStays o y new) along stays, refl)
   rise_more (m ∷ ls) (y ∷ ys) l x old mid new along h stays = (along.0, along.1, along.2, rise_more ls ys l x along.0 mid new along.3 h stays)
   rise_more [] (y ∷ ys) l x old mid new along h stays = absurd along
   rise_more (m ∷ ls) [] l x old mid new along h stays = absurd along
 
-  ran_nothing : (V : Whole) (core : Core S R W w) → Stands o r w U core V → Ran o r w U [] V core [] core
-  ran_nothing V core stands = record { played = tt; after = V; seen = []; run = refl; rose = refl; faults = run_faults o r U V V core [] [] core refl refl; not_ready = run_waits o r U V V core [] [] core refl refl; few = sums o r core [] [] core refl; stands = stands }
+  cause_more : (ls : List Line) (l : Line) (old mid new : Core S R W w) → CausedAlong o r w old ls mid → IsCaused o r w mid new l.actor l.reply → MediaStays o mid new → CausedAlong o r w old (ls ++ l ∷ []) new
+  cause_more [] l old mid new along h stays = (new, subst (λ (y : Core S R W w). IsCaused o r w y new l.actor l.reply) along h, subst (λ (y : Core S R W w). MediaStays o y new) along stays, refl)
+  cause_more (m ∷ ls) l old mid new along h stays = (along.0, along.1, along.2, cause_more ls l along.0 mid new along.3 h stays)
+
+  ran_nothing : (U : Setup) (V : Whole) (core : Core S R W w) → Stands o r w U core V → Ran o r w U V core [] core
+  ran_nothing U V core stands = record { after = V; seen = []; run = refl; rose = refl; faults = run_faults o r U V V core [] [] core refl refl; not_ready = run_waits o r U V V core [] [] core refl refl; few = sums o r core [] [] core refl; stands = stands }
 
   -- one line more
-  ran_more : (cs : List Command) (c : Command) (ls : List Line) (l : Line) (V : Whole) (old mid new : Core S R W w) → Ran o r w U cs V old ls mid → Acts o r w c l mid new → Ran o r w U (cs ++ c ∷ []) V old (ls ++ l ∷ []) new
-  ran_more cs c ls l V old mid new ran acts =
+  ran_more : (U : Setup) (c : Command) (ls : List Line) (l : Line) (V : Whole) (old mid new : Core S R W w) → Ran o r w U V old ls mid → Acts o r w c l mid new → Ran o r w U V old (ls ++ l ∷ []) new
+  ran_more U c ls l V old mid new ran acts =
       let goes = acts.steps U ran.after ran.stands in
       let x : Observation = record { rise = goes.rise; made = goes.made } in
       let lines = ls ++ l ∷ [] in
@@ -84,7 +89,6 @@ module _ {S R W : Type 0} (o : objects.Ghosts S R W) (r : reads.Ghosts R) (w : w
       let run = run_more U ls ran.seen l x V ran.after goes.after ran.run goes.step in
       let rose = rise_more ls ran.seen l x old mid new ran.rose goes.rises acts.media in
       record {
-        played = played_more cs ls c l acts.says ran.played;
         after = goes.after;
         seen = seen;
         run = run;
@@ -95,18 +99,25 @@ module _ {S R W : Type 0} (o : objects.Ghosts S R W) (r : reads.Ghosts R) (w : w
         stands = goes.stands;
       }
 
+  did_more : (cs : List Command) (c : Command) (ls : List Line) (l : Line) (old mid new : Core S R W w) → Lines o r w cs old ls mid → Acts o r w c l mid new → Lines o r w (cs ++ c ∷ []) old (ls ++ l ∷ []) new
+  did_more cs c ls l old mid new did acts = record {
+    played = played_more cs ls c l acts.says did.played;
+    caused = cause_more ls l old mid new did.caused acts.cause acts.media;
+    ran = λ U V stands. ran_more U c ls l V old mid new (did.ran U V stands) acts;
+  }
+
   -- ---- what the sink took
 
-  pub begins : (V : Whole) (core : Core S R W w) (a : Option (List ℕ)) → Stands o r w U core V → Tells o r w U [] V core core a a
-  begins V core a stands = record { lines = []; ran = ran_nothing V core stands; text = Takes-nil a }
+  pub begins : (core : Core S R W w) (a : Option (List ℕ)) → Tells o r w [] core core a a
+  begins core a = record { lines = []; did = record { played = tt; caused = refl; ran = λ U V stands. ran_nothing U V core stands }; text = Takes-nil a }
 
-  module _ (all : List Command) (k : ℕ) (V : Whole) (first old : Core S R W w) (a b : Option (List ℕ)) (so_far : Tells o r w U (take k all) V first old a b) where
+  module _ (all : List Command) (k : ℕ) (first old : Core S R W w) (a b : Option (List ℕ)) (so_far : Tells o r w (take k all) first old a b) where
     -- nothing more was done
-    pub in_front : TellsFront o r w U all V first old a b
+    pub in_front : TellsFront o r w all first old a b
     in_front = record {
       count = k;
       lines = so_far.lines;
-      ran = so_far.ran;
+      did = so_far.did;
       told = length so_far.lines;
       late = omega arith;
       text = subst (λ ls. Takes a b (lines_text ls)) (sym (take_whole so_far.lines)) so_far.text;
@@ -116,38 +127,38 @@ module _ {S R W : Type 0} (o : objects.Ghosts S R W) (r : reads.Ghosts R) (w : w
       lines : List Line
       lines = so_far.lines ++ l ∷ []
 
-      ran : Ran o r w U (take (k + 1) all) V first lines new
+      did : Lines o r w (take (k + 1) all) first lines new
       unfolding lines
-      ran = subst (λ cs. Ran o r w U cs V first lines new) front (ran_more (take k all) c so_far.lines l V first old new so_far.ran acts)
+      did = subst (λ cs. Lines o r w cs first lines new) front (did_more (take k all) c so_far.lines l first old new so_far.did acts)
 
       -- one command more was done and told
-      pub goes_on : (d : Option (List ℕ)) → Takes b d (line_text l) → Tells o r w U (take (k + 1) all) V first new a d
+      pub goes_on : (d : Option (List ℕ)) → Takes b d (line_text l) → Tells o r w (take (k + 1) all) first new a d
       unfolding lines
       goes_on d told = record {
         lines = lines;
-        ran = ran;
+        did = did;
         text = subst (λ xs. Takes a d xs) (sym (lines_more so_far.lines l)) (Takes-trans a b d (lines_text so_far.lines) (line_text l) so_far.text told);
       }
 
       -- it was done and not told
-      pub untold : TellsFront o r w U all V first new a b
+      pub untold : TellsFront o r w all first new a b
       unfolding lines
       untold = record {
         count = k + 1;
         lines = lines;
-        ran = ran;
+        did = did;
         told = length so_far.lines;
         late = one_longer so_far.lines l;
         text = subst (λ ls. Takes a b (lines_text ls)) (sym (take_front so_far.lines (l ∷ []))) so_far.text;
       }
 
       -- it was done, and a front of its line was told
-      pub partly : (d : Option (List ℕ)) (n : ℕ) → Takes b d (take n (line_text l)) → TellsPartly o r w U all V first new a d
+      pub partly : (d : Option (List ℕ)) (n : ℕ) → Takes b d (take n (line_text l)) → TellsPartly o r w all first new a d
       unfolding lines
       partly d n told = record {
         count = k + 1;
         lines = lines;
-        ran = ran;
+        did = did;
         told = length so_far.lines;
         late = one_longer so_far.lines l;
         bytes = n;
@@ -162,7 +173,7 @@ module _ {S R W : Type 0} (o : objects.Ghosts S R W) (r : reads.Ghosts R) (w : w
 
 -- where no count rose, no line answers a fault or a wait
 pub quiet_runs : {S R W : Type 0} (o : objects.Ghosts S R W) (r : reads.Ghosts R) (w : writes.Ghosts W) → QuietRuns o r w
-quiet_runs o r w U commands V old new lines ran none same hands waited = (
+quiet_runs o r w U V old new lines ran none same hands waited = (
   let few = ran.few none in omega (arith, few, ran.faults, same, hands),
   omega (arith, ran.not_ready, waited),
 )

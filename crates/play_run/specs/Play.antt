@@ -3,6 +3,7 @@ use Rattle.std.specs.Prelude.{ℕ, ◌≡◌, ◌≤◌, ◌+◌, List, [], ◌�
 use Rattle.fs_model.specs.declared.setup.Setup.{Setup}
 use Rattle.fs_model.specs.declared.reply.Line.{Line}
 use Rattle.fs_model.specs.State.{Whole}
+use Rattle.fs_model.specs.Begins.{Begins}
 use Rattle.fs_model.specs.Step.{Observation, Run}
 use Rattle.outside.specs.Streams.{Takes}
 use Rattle.outside.specs.declared.media.Media.{Media}
@@ -12,6 +13,8 @@ use Rattle.outside.specs.declared.objects.ObjectWrite as writes
 use Rattle.script_text.specs.declared.script.Command.{Command}
 use Rattle.script_text.specs.declared.script.Verb.{Verb}
 use Rattle.script_text.specs.LineText.{lines_text}
+use Rattle.cluster_core.specs.Begun.{TiersEmpty}
+use Rattle.cluster_core.specs.Causes.{IsCaused}
 use Rattle.cluster_core.specs.Goes.{Steps}
 use Rattle.cluster_core.specs.Media.{MediaStays}
 use Rattle.cluster_core.specs.Stands.{Stands}
@@ -33,17 +36,22 @@ Played [] (l ∷ ls) = ⊥
 Played (c ∷ cs) [] = ⊥
 
 module _ {S R W : Type 0} (o : objects.Ghosts S R W) (r : reads.Ghosts R) (w : writes.Ghosts W) where
-  -- the line tells one step of the command
+  -- the line tells one event of the command, in which a fault or a wait has its cause; it is a step from every state that the core stands for
   pub record Acts (command : Command) (line : Line) (old new : Core S R W w) : Type 0 where
     pub says : Says command line
     pub steps : Steps o r w old new line.actor line.event line.reply
     pub media : MediaStays o old new
+    pub cause : IsCaused o r w old new line.actor line.reply
 
   -- ---- runs
 
-  -- the lines are a run of the machine for these commands, to a state that the core stands for then, and each rise in it is that of real counts in that event
-  pub record Ran (U : Setup) (commands : List Command) (V : Whole) (old : Core S R W w) (lines : List Line) (new : Core S R W w) : Type 0 where
-    pub played : Played commands lines
+  -- there are cores from one line to the next, between which a fault or a wait has its cause, whatever they stand for
+  abbrev pub CausedAlong : Core S R W w → List Line → Core S R W w → Type 0
+  CausedAlong old [] new = new ≡ old
+  CausedAlong old (line ∷ lines) new = (mid : Core S R W w) × IsCaused o r w old mid line.actor line.reply × MediaStays o old mid × CausedAlong mid lines new
+
+  -- the lines are a run of the machine to a state that the core stands for then, and each rise in it is that of real counts in that event
+  pub record Ran (U : Setup) (V : Whole) (old : Core S R W w) (lines : List Line) (new : Core S R W w) : Type 0 where
     pub after : Whole
     pub seen : List Observation
     pub run : Run U V lines after seen
@@ -58,33 +66,39 @@ module _ {S R W : Type 0} (o : objects.Ghosts S R W) (r : reads.Ghosts R) (w : w
 
   -- where the sum of the tiers' counts is the same at the end, and no label's count or waits rose, no line answers a tier's fault or that the reader isn't ready
   abbrev pub QuietRuns : Type 0
-  QuietRuns = (U : Setup) (commands : List Command) (V : Whole) (old new : Core S R W w) (lines : List Line) (ran : Ran U commands V old lines new)
+  QuietRuns = (U : Setup) (V : Whole) (old new : Core S R W w) (lines : List Line) (ran : Ran U V old lines new)
       → NoneLast o new → total o new ≡ total o old
       → labels o r w old lines ran.seen new ran.rose ≡ 0 → waits o r w old lines ran.seen new ran.rose ≡ 0
       → (answers is_tier_fault lines ≡ 0) × (answers is_wait lines ≡ 0)
 
+  -- the lines are of these commands, each once and in order; each fault in them has its cause; and from every state that the core stood for they are a run
+  pub record Lines (commands : List Command) (old : Core S R W w) (lines : List Line) (new : Core S R W w) : Type 0 where
+    pub played : Played commands lines
+    pub caused : CausedAlong old lines new
+    pub ran : (U : Setup) (V : Whole) → Stands o r w U old V → Ran U V old lines new
+
   -- ---- what the sink took
 
-  -- the texts of the lines of such a run
-  pub record Tells (U : Setup) (commands : List Command) (V : Whole) (old new : Core S R W w) (before after : Option (List ℕ)) : Type 0 where
+  -- the texts of such lines
+  pub record Tells (commands : List Command) (old new : Core S R W w) (before after : Option (List ℕ)) : Type 0 where
     pub lines : List Line
-    pub ran : Ran U commands V old lines new
+    pub did : Lines commands old lines new
     pub text : Takes before after (lines_text lines)
 
   -- so it is for the first of the commands, but that the last line may not have been told
-  pub record TellsFront (U : Setup) (commands : List Command) (V : Whole) (old new : Core S R W w) (before after : Option (List ℕ)) : Type 0 where
+  pub record TellsFront (commands : List Command) (old new : Core S R W w) (before after : Option (List ℕ)) : Type 0 where
     pub count : ℕ
     pub lines : List Line
-    pub ran : Ran U (take count commands) V old lines new
+    pub did : Lines (take count commands) old lines new
     pub told : ℕ
     pub late : length lines ≤ told + 1
     pub text : Takes before after (lines_text (take told lines))
 
   -- so it is for the first of the commands, but that a front of the text was taken, which has all lines but the last
-  pub record TellsPartly (U : Setup) (commands : List Command) (V : Whole) (old new : Core S R W w) (before after : Option (List ℕ)) : Type 0 where
+  pub record TellsPartly (commands : List Command) (old new : Core S R W w) (before after : Option (List ℕ)) : Type 0 where
     pub count : ℕ
     pub lines : List Line
-    pub ran : Ran U (take count commands) V old lines new
+    pub did : Lines (take count commands) old lines new
     pub told : ℕ
     pub late : length lines ≤ told + 1
     pub bytes : ℕ
@@ -97,10 +111,11 @@ module _ {S R W : Type 0} (o : objects.Ghosts S R W) (r : reads.Ghosts R) (w : w
     pub stores : core.stores ≡ media.stores
     pub tiers : map (λ n. n.tiers) core.workers.items ≡ media.tiers.items
 
-  -- P holds from a core over the media at the beginning to one over those that are given back
-  pub record Between (media back : Media S) (P : Core S R W w → Core S R W w → Type 0) : Type 0 where
+  -- P holds from a core over the media at the beginning, which over tiers that tell and hold no object stands for every state that a play begins with, to one over those that are given back
+  pub record Between (U : Setup) (media back : Media S) (P : Core S R W w → Core S R W w → Type 0) : Type 0 where
     pub first : Core S R W w
     pub last : Core S R W w
     pub opened : IsOver first media
+    pub stands : (V : Whole) → Begins U V → TiersEmpty o media → Stands o r w U first V
     pub closed : IsOver last back
     pub holds : P first last

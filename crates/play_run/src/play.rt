@@ -2,20 +2,17 @@
 
 ghost use Rattle.std.specs.Prelude.{◌≡◌, ◌≤◌, ◌⊎◌, ℕ, [], true, take, length, map, OnOk, OnErr, IfOk, IfErr, Err};
 ghost use Rattle.std.specs.List.{list_all};
-ghost use Rattle.fs_model.specs.declared.setup.Setup.{Setup};
 ghost use Rattle.fs_model.specs.declared.stop.Stop.{Stop};
-ghost use Rattle.fs_model.specs.State.{Whole};
 ghost use Rattle.fs_model.specs.Spelled.{is_actor, is_setup, is_spelled};
-ghost use Rattle.fs_model.specs.Begins.{Begins};
 ghost use Rattle.fs_model.specs.Built.{is_built};
 ghost use Rattle.outside.specs.Causes.{Rose};
 ghost use Rattle.outside.specs.Streams.{Takes};
 ghost use Rattle.script_text.specs.LineText.{line_text};
 ghost use Rattle.script_text.specs.Commands.{is_command};
-ghost use Rattle.cluster_core.specs.Begun.{MediaFit, TiersEmpty, tier_counts};
+ghost use Rattle.cluster_core.specs.Begun.{MediaFit, tier_counts};
+ghost use Rattle.cluster_core.specs.Causes.{IsCaused};
 ghost use Rattle.cluster_core.specs.Goes.{Steps};
 ghost use Rattle.cluster_core.specs.Media.{MediaStays};
-ghost use Rattle.cluster_core.specs.Stands.{Stands};
 ghost use Rattle.play_run.specs.Play.{Acts, Between, Tells, TellsFront, TellsPartly};
 
 use cluster_core::cluster::Core;
@@ -64,8 +61,9 @@ fn answer<O: Objects>(
     requires spelled { is_spelled event ≡ true }
     ensures event { result.event ≡ event }
     ensures actor { result.actor ≡ actor }
-    ensures steps { Steps O.Objects O.Reader.ObjectRead O.Writer.ObjectWrite core.old core.new actor event result.reply }
+    ensures steps { Steps O.Objects O.Reader.ObjectRead O.Writer.ObjectWrite core.old core.new result.actor result.event result.reply }
     ensures media { MediaStays O.Objects core.old core.new }
+    ensures cause { IsCaused O.Objects O.Reader.ObjectRead O.Writer.ObjectWrite core.old core.new result.actor result.reply }
 {
     let reply = core.step(alloc, actor, &event);
     Line {
@@ -131,9 +129,9 @@ fn play_over<O: Objects, S: Sink>(
     sink: &mut S,
 ) -> Result<(), Stop>
     requires { list_all is_command script.now ≡ true }
-    ensures ok { OnOk result ((U : Setup) (V : Whole) → Stands O.Objects O.Reader.ObjectRead O.Writer.ObjectWrite U core.old V → Tells O.Objects O.Reader.ObjectRead O.Writer.ObjectWrite U script.now V core.old core.new (S.taken sink.old) (S.taken sink.new)) }
-    ensures write { result ≡ Err Stop.WriteFault → (U : Setup) (V : Whole) → Stands O.Objects O.Reader.ObjectRead O.Writer.ObjectWrite U core.old V → TellsPartly O.Objects O.Reader.ObjectRead O.Writer.ObjectWrite U script.now V core.old core.new (S.taken sink.old) (S.taken sink.new) }
-    ensures memory { result ≡ Err Stop.Memory → (U : Setup) (V : Whole) → Stands O.Objects O.Reader.ObjectRead O.Writer.ObjectWrite U core.old V → TellsFront O.Objects O.Reader.ObjectRead O.Writer.ObjectWrite U script.now V core.old core.new (S.taken sink.old) (S.taken sink.new) }
+    ensures ok { OnOk result (Tells O.Objects O.Reader.ObjectRead O.Writer.ObjectWrite script.now core.old core.new (S.taken sink.old) (S.taken sink.new)) }
+    ensures write { result ≡ Err Stop.WriteFault → TellsPartly O.Objects O.Reader.ObjectRead O.Writer.ObjectWrite script.now core.old core.new (S.taken sink.old) (S.taken sink.new) }
+    ensures memory { result ≡ Err Stop.Memory → TellsFront O.Objects O.Reader.ObjectRead O.Writer.ObjectWrite script.now core.old core.new (S.taken sink.old) (S.taken sink.new) }
     ensures cause { result ≡ Err Stop.WriteFault → Rose (S.faults sink.old) (S.faults sink.new) }
     ensures ends { IfErr result (λ why. (why ≡ Stop.Memory) ⊎ (why ≡ Stop.WriteFault)) }
     ensures later { S.faults sink.old ≤ S.faults sink.new }
@@ -163,17 +161,17 @@ pub fn play<O: Objects, S: Sink>(
     requires fit { MediaFit setup.now media }
     requires commands { list_all is_command script.now ≡ true }
 
-    // Over tiers that tell and hold no object, whatever state the play began with, the sink took the lines of a run of
-    // the machine, in which each rise is one of real counts; the media given back are those of a core that stands for
-    // the state after it.
-    ensures ok { OnOk result.0 ((V : Whole) → Begins setup.now V → TiersEmpty O.Objects media → Between O.Objects O.Reader.ObjectRead O.Writer.ObjectWrite media result.1 (λ first last. Tells O.Objects O.Reader.ObjectRead O.Writer.ObjectWrite setup.now script.now V first last (S.taken sink.old) (S.taken sink.new))) }
+    // The sink took the lines of the script's events, in which each fault has its cause. Over tiers that tell and hold no
+    // object they are a run of the machine, whatever state the play began with, in which each rise is one of real counts;
+    // the media given back are those of a core that stands for the state after it.
+    ensures ok { OnOk result.0 (Between O.Objects O.Reader.ObjectRead O.Writer.ObjectWrite setup.now media result.1 (λ first last. Tells O.Objects O.Reader.ObjectRead O.Writer.ObjectWrite script.now first last (S.taken sink.old) (S.taken sink.new))) }
 
     // At a fault of the sink it took a front of such a text, and its count rose.
-    ensures write { result.0 ≡ Err Stop.WriteFault → (V : Whole) → Begins setup.now V → TiersEmpty O.Objects media → Between O.Objects O.Reader.ObjectRead O.Writer.ObjectWrite media result.1 (λ first last. TellsPartly O.Objects O.Reader.ObjectRead O.Writer.ObjectWrite setup.now script.now V first last (S.taken sink.old) (S.taken sink.new)) }
+    ensures write { result.0 ≡ Err Stop.WriteFault → Between O.Objects O.Reader.ObjectRead O.Writer.ObjectWrite setup.now media result.1 (λ first last. TellsPartly O.Objects O.Reader.ObjectRead O.Writer.ObjectWrite script.now first last (S.taken sink.old) (S.taken sink.new)) }
     ensures cause { result.0 ≡ Err Stop.WriteFault → Rose (S.faults sink.old) (S.faults sink.new) }
 
     // Where memory runs out nothing began, or it took the lines of the first commands.
-    ensures memory { result.0 ≡ Err Stop.Memory → ((result.1 ≡ media) × (sink.new ≡ sink.old)) ⊎ ((V : Whole) → Begins setup.now V → TiersEmpty O.Objects media → Between O.Objects O.Reader.ObjectRead O.Writer.ObjectWrite media result.1 (λ first last. TellsFront O.Objects O.Reader.ObjectRead O.Writer.ObjectWrite setup.now script.now V first last (S.taken sink.old) (S.taken sink.new))) }
+    ensures memory { result.0 ≡ Err Stop.Memory → ((result.1 ≡ media) × (sink.new ≡ sink.old)) ⊎ Between O.Objects O.Reader.ObjectRead O.Writer.ObjectWrite setup.now media result.1 (λ first last. TellsFront O.Objects O.Reader.ObjectRead O.Writer.ObjectWrite script.now first last (S.taken sink.old) (S.taken sink.new)) }
 
     ensures ends { IfErr result.0 (λ why. (why ≡ Stop.Memory) ⊎ (why ≡ Stop.WriteFault)) }
     ensures later { S.faults sink.old ≤ S.faults sink.new }

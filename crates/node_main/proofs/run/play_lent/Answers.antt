@@ -7,7 +7,7 @@ pub returns-in-Ok-clause-done : goal.returns-in-Ok-clause-done
 returns-in-Ok-clause-done g c = λ _. rw c.give_back.ensures.output (record {
   back = c.play_out-played.result.1;
   held = record { shape = c.play_out-played.ensures.shape; each = at_some _ media_names _ (c.play_out-played.ensures.lent ∙ c.requires.lent) c.give_back.ensures.told };
-  lines = on_ok c.play_out-played.result.0 _ _ c.in-Ok.is c.play_out-played.ensures.done;
+  between = on_ok c.play_out-played.result.0 _ _ c.in-Ok.is c.play_out-played.ensures.done;
 })
 
 pub returns-in-Err-clause-partly : goal.returns-in-Err-clause-partly
@@ -16,7 +16,7 @@ returns-in-Err-clause-partly g c = λ h.
     rw c.give_back.ensures.output (record {
       back = c.play_out-played.result.1;
       held = record { shape = c.play_out-played.ensures.shape; each = at_some _ media_names _ (c.play_out-played.ensures.lent ∙ c.requires.lent) c.give_back.ensures.told };
-      lines = c.play_out-played.ensures.partly (rw stop at c.in-Err.is);
+      between = c.play_out-played.ensures.partly (rw stop at c.in-Err.is);
     })
 
 pub returns-in-Err-clause-memory : goal.returns-in-Err-clause-memory
@@ -25,5 +25,5 @@ returns-in-Err-clause-memory g c = λ h.
     let told = at_some _ media_names _ (c.play_out-played.ensures.lent ∙ c.requires.lent) c.give_back.ensures.told in
     rw c.give_back.ensures.output (elim (c.play_out-played.ensures.memory (rw stop at c.in-Err.is)) [
       | inl same ↦ inl (ap (λ out. g.W.Out.Sink.taken out) same.1, subst (λ m. IsHeld g.W.Store.Objects g.W.Store.Reader.ObjectRead g.W.Store.Writer.ObjectWrite (g.W.World.shelf c.give_back.new.self) m) same.0 (record { shape = c.play_out-played.ensures.shape; each = told }))
-      | inr front ↦ inr (record { back = c.play_out-played.result.1; held = record { shape = c.play_out-played.ensures.shape; each = told }; lines = front })
+      | inr front ↦ inr (record { back = c.play_out-played.result.1; held = record { shape = c.play_out-played.ensures.shape; each = told }; between = front })
     ])
