@@ -1,7 +1,7 @@
 //! Readers of which a call fails or isn't ready: the source is dropped, and a new one goes on.
 
 use super::failing::{Call, Seen, some_lines, tier, watched};
-use super::scripts::TWO_BLOCKS;
+use super::scripts::{EMPTY, TWO_BLOCKS};
 use std::alloc::{AllocError, Global};
 use std::test::Fail;
 
@@ -194,26 +194,30 @@ fn a_reader_that_is_not_ready_is_polled_again(rt: HostRuntime) -> Result<(), Fai
 #[test]
 fn no_other_call_is_made(rt: HostRuntime) -> Result<(), Fail> {
     let alloc = rt.alloc();
-    for (call, number) in [
-        (Call::BeginWrite, 3),
-        (Call::Finish, 3),
-        (Call::LateFinish, 3),
-        (Call::BeginRead, 3),
-        (Call::Put(1), 2),
-        (Call::Put(2), 2),
-        (Call::Put(3), 1),
-        (Call::Poll(1), 2),
-        (Call::Poll(2), 2),
-        (Call::Poll(3), 1),
-        (Call::Wait(1), 2),
-        (Call::Wait(2), 2),
-        (Call::Wait(3), 1),
+    for (lines, call, number, objects) in [
+        (TWO_BLOCKS, Call::BeginWrite, 3, 2),
+        (TWO_BLOCKS, Call::Finish, 3, 2),
+        (TWO_BLOCKS, Call::LateFinish, 3, 2),
+        (TWO_BLOCKS, Call::BeginRead, 3, 2),
+        (TWO_BLOCKS, Call::Put(1), 2, 2),
+        (TWO_BLOCKS, Call::Put(2), 2, 2),
+        (TWO_BLOCKS, Call::Put(3), 1, 2),
+        (TWO_BLOCKS, Call::Poll(1), 2, 2),
+        (TWO_BLOCKS, Call::Poll(2), 2, 2),
+        (TWO_BLOCKS, Call::Poll(3), 1, 2),
+        (TWO_BLOCKS, Call::Wait(1), 2, 2),
+        (TWO_BLOCKS, Call::Wait(2), 2, 2),
+        (TWO_BLOCKS, Call::Wait(3), 1, 2),
+        (EMPTY, Call::BeginWrite, 1, 0),
+        (EMPTY, Call::Finish, 1, 0),
+        (EMPTY, Call::LateFinish, 1, 0),
+        (EMPTY, Call::BeginRead, 1, 0),
     ] {
         let first = tier(alloc, call, number, true)?;
-        let seen = watched(alloc, TWO_BLOCKS, first)?;
-        assert_eq!(rt; seen.text.as_str(), TWO_BLOCKS, "{call:?} {number}");
+        let seen = watched(alloc, lines, first)?;
+        assert_eq!(rt; seen.text.as_str(), lines, "{call:?} {number}");
         assert_eq!(rt; seen.faults, 0, "{call:?} {number}");
-        assert_eq!(rt; seen.objects, 2, "{call:?} {number}");
+        assert_eq!(rt; seen.objects, objects, "{call:?} {number}");
     }
     Ok(())
 }
