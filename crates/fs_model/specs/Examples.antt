@@ -1,5 +1,5 @@
 -- Worked examples: the replies to short scripts, computed from the definitions.
-use Rattle.std.specs.Prelude.{◌≡◌, refl, ℕ, zero, suc, ◌+◌, Bool, true, false, None, Some, List, [], ◌∷◌, ◌++◌, map, codes}
+use Rattle.std.specs.Prelude.{◌≡◌, refl, ℕ, zero, suc, ◌+◌, ◌-◌, ◌^◌, Bool, true, false, None, Some, List, [], ◌∷◌, ◌++◌, map, replicate, codes}
 use Rattle.fs_model.specs.declared.setup.Setup.{Setup}
 use Rattle.fs_model.specs.declared.path.Path.{Path}
 use Rattle.fs_model.specs.declared.label.Label.{Label}
@@ -18,7 +18,8 @@ use Rattle.fs_model.specs.Lookups.{children}
 use Rattle.fs_model.specs.Journaling.{doubt_of}
 use Rattle.fs_model.specs.Faults.{Remains, BlockFate, Rise, after_fault, may_fail}
 use Rattle.fs_model.specs.Step.{Step, stopped_with}
-use Rattle.fs_model.specs.State.{Whole, State, Hands}
+use Rattle.fs_model.specs.State.{Whole, State, Node, NodeRow, Hand, LabelRow, Hands}
+use Rattle.fs_model.specs.Updates.{change_worker}
 use Rattle.fs_model.specs.Opening.{fresh}
 use Rattle.fs_model.specs.Mirror.{settled_objects, bytes_at, Side}
 use Rattle.fs_model.specs.NodesEvents.{Object, restart_outcome}
@@ -678,6 +679,70 @@ many_creates (suc n) = many_creates n ++ Event.Create (number_text n) (number_te
 labels_are_limited : told_after two_workers (up 1 ++ one (many_creates 64)) ((1, Event.Create (codes "z") (codes "z" ∷ []) WriteType.MustCache 1) ∷ (2, Event.Create (codes "z") (codes "z" ∷ []) WriteType.MustCache 1) ∷ []) ≡ Reply.Refused (Refusal.Limit Which.Labels) ∷ Reply.Done ∷ []
 labels_are_limited = refl
 
+-- the last label is given, and then neither a new file nor a stream gets one
+the_last_label_is_given : told_after two_workers (one_kept_block ++ one (many_creates 63)) (one (
+    Event.Create (codes "y") (codes "y" ∷ []) WriteType.MustCache 1
+    ∷ Event.Create (codes "z") (codes "z" ∷ []) WriteType.MustCache 1
+    ∷ Event.OpenFile (codes "z") (codes "a" ∷ []) ReadType.NoCache 0
+    ∷ [])) ≡
+    Reply.Done
+    ∷ Reply.Refused (Refusal.Limit Which.Labels)
+    ∷ Reply.Refused (Refusal.Limit Which.Labels)
+    ∷ []
+the_last_label_is_given = refl
+
 -- a store or a tier that isn't configured
 names_of_devices_are_limited : told_after two_workers (up 1 ++ copyin (codes "f") (codes "a" ∷ []) WriteType.MustCache 1 0 1) (one (Event.Mount (codes "m" ∷ []) 3 [] ∷ Event.Shift (codes "m") 1 (codes "a" ∷ []) 0 2 ∷ Event.Start 3 ∷ [])) ≡ Reply.Refused (Refusal.Limit Which.Store) ∷ Reply.Refused (Refusal.Limit Which.Tier) ∷ Reply.Refused (Refusal.NoWorker 3) ∷ []
 names_of_devices_are_limited = refl
+
+-- worker 1 has one tier of 1 MiB, and blocks are of 1 byte
+abbrev pub short_blocks : Setup
+short_blocks = record two_workers { block = 1; tiers = (1048576 ∷ []) ∷ [] }
+
+-- a file of one byte, whose only block is open and full
+abbrev pub one_byte_taken : Whole
+one_byte_taken = final short_blocks (fresh short_blocks) (up 1 ++ one (Event.Create (codes "f") (codes "a" ∷ []) WriteType.MustCache 1 ∷ Event.Room (codes "f") ∷ Event.Put (codes "f") (Fill.Listed (0 ∷ [])) ∷ []))
+
+-- the writer took so many zeros
+abbrev pub of_zeros : ℕ → Hand → Hand
+of_zeros n (Hand.Writing w) = Hand.Writing (record w { taken = replicate n 0 })
+of_zeros n h = h
+
+-- the same where the file has so many bytes
+abbrev pub bytes_taken : ℕ → Whole
+bytes_taken n = record one_byte_taken { hands = map (map (λ (r : LabelRow). record r { hand = of_zeros n r.hand })) one_byte_taken.hands }
+
+-- a file has at most 65536 blocks: the last one is opened, and no other
+blocks_of_a_writer_are_limited : (replies short_blocks (bytes_taken 65535) (one (Event.Room (codes "f") ∷ [])) ≡ Reply.Done ∷ []) × (replies short_blocks (bytes_taken 65536) (one (Event.Room (codes "f") ∷ [])) ≡ Reply.Refused (Refusal.Limit Which.Blocks) ∷ [])
+blocks_of_a_writer_are_limited = (refl, refl)
+
+-- the same file where worker 1 gave out all numbers below this one
+abbrev pub next_object : ℕ → Whole
+next_object n = record one_byte_taken { body = change_worker 1 (λ w. record w { next = n }) one_byte_taken.body }
+
+-- the last number of an object is 2^63 - 1
+objects_of_a_worker_are_limited : replies short_blocks (next_object (2 ^ 63 - 1)) (one (
+    Event.Room (codes "f")
+    ∷ Event.Put (codes "f") (Fill.Listed (0 ∷ []))
+    ∷ Event.Room (codes "f")
+    ∷ [])) ≡
+    Reply.Done
+    ∷ Reply.Taken 1
+    ∷ Reply.Refused (Refusal.Limit Which.Ids)
+    ∷ []
+objects_of_a_worker_are_limited = refl
+
+-- the file has so many bytes
+abbrev pub of_length : ℕ → Node → Node
+of_length n Node.Directory = Node.Directory
+of_length n (Node.IsFile f) = Node.IsFile (record f { len = n })
+
+-- a file that is done, and that has so many bytes
+abbrev pub bytes_done : ℕ → State
+bytes_done n =
+    let A = (final two_workers (fresh two_workers) (up 1 ++ copyin (codes "f") (codes "a" ∷ []) WriteType.MustCache 1 0 1)).body in
+    record A { names = record A.names { nodes = map (λ (r : NodeRow). (r.0, of_length n r.1)) A.names.nodes } }
+
+-- a file of 65536 blocks of 4 bytes is opened, and one of a byte more isn't
+blocks_of_a_stream_are_limited : (refusal two_workers (bytes_done 262144) [] (Event.OpenFile (codes "r") (codes "a" ∷ []) ReadType.NoCache 0) ≡ None) × (refusal two_workers (bytes_done 262145) [] (Event.OpenFile (codes "r") (codes "a" ∷ []) ReadType.NoCache 0) ≡ Some (Reply.Refused (Refusal.Limit Which.Blocks)))
+blocks_of_a_stream_are_limited = (refl, refl)
