@@ -39,7 +39,7 @@ abbrev pub wait_rise : Rise
 wait_rise = record { stores = []; tiers = []; journal = 0; waits = 1 }
 
 module _ {S R W : Type 0} (o : objects.Ghosts S R W) (r : reads.Ghosts R) (w : writes.Ghosts W) where
-  -- a count of the tier rose, of its own or of misses
+  -- the count of faults of a tier rose
   abbrev pub TierRose : Core S R W w → Core S R W w → ℕ → ℕ → Type 0
   TierRose old new v t = At old.workers.items new.workers.items (pred v) (λ n m. At n.tiers.items m.tiers.items t (λ s u. Rose (o.faults s) (o.faults u)))
 
