@@ -1,7 +1,7 @@
 -- Which calls of a store in memory fail, and which of those that fail are done all the same.
-use Rattle.std.specs.Prelude.{ℕ, ◌≡◌, Bool, false, not, ◌&&◌, ◌||◌, ◌-◌, ◌^◌, List, [], ◌∷◌, nat_eq, nat_le, if◌then◌else◌}
+use Rattle.std.specs.Prelude.{ℕ, ◌≡◌, Bool, false, not, ◌&&◌, ◌||◌, ◌-◌, ◌^◌, List, [], ◌∷◌, length, nat_eq, nat_le, if◌then◌else◌}
 use Rattle.outside.specs.Causes.{next_count}
-use Rattle.outside.specs.Failures.{is_failing, IsQuiet}
+use Rattle.outside.specs.Failures.{is_failing, is_quiet, IsQuiet}
 use Rattle.outside.specs.declared.memory.failures.Failing.{Failing}
 use Rattle.outside.specs.declared.memory.calls.Calls.{Calls}
 use Rattle.outside.specs.declared.memory.calls.StoreCalls.{StoreCalls}
@@ -37,6 +37,10 @@ abbrev pub is_listed_for : List ByNumber → ℕ → ℕ → Bool
 is_listed_for [] number call = false
 is_listed_for (told ∷ more) number call = if nat_eq told.number number then is_failing told.failing call else is_listed_for more number call
 
+-- no reader's or writer's calls are listed
+abbrev pub is_none_listed : List ByNumber → Bool
+is_none_listed told = nat_eq (length told) 0
+
 -- no call of a kind is to fail, and there were none
 abbrev pub IsUnused : Failing → ℕ → Type 0
 IsUnused failing count = IsQuiet failing × (count ≡ 0)
@@ -52,3 +56,23 @@ pub record IsFresh (calls : StoreCalls) : Type 0 where
   pub clears : IsUnused calls.clears.failing calls.clears.count
   pub polls : (calls.failing_polls.items ≡ []) × (calls.waiting_polls.items ≡ [])
   pub puts : calls.failing_puts.items ≡ []
+
+-- no poll of a reader is to fail or to wait
+abbrev pub are_polls_quiet : StoreCalls → Bool
+are_polls_quiet calls = is_none_listed calls.failing_polls.items && is_none_listed calls.waiting_polls.items
+
+-- no put of a writer and no call of the store itself is to fail
+abbrev pub are_others_quiet : StoreCalls → Bool
+are_others_quiet calls =
+    is_none_listed calls.failing_puts.items
+    && is_quiet calls.begin_reads.failing
+    && is_quiet calls.begin_writes.failing
+    && is_quiet calls.finishes.failing
+    && is_quiet calls.renames.failing
+    && is_quiet calls.removes.failing
+    && is_quiet calls.next_keys.failing
+    && is_quiet calls.clears.failing
+
+-- no call of a store, its readers or its writers is to fail, and no poll is to wait
+abbrev pub is_steady : StoreCalls → Bool
+is_steady calls = are_polls_quiet calls && are_others_quiet calls

@@ -1,5 +1,5 @@
 -- Which calls of a fake are to fail.
-use Rattle.std.specs.Prelude.{ℕ, ◌≡◌, [], Bool, false, ◌||◌, nat_eq, nat_le, Some, None}
+use Rattle.std.specs.Prelude.{ℕ, ◌≡◌, [], Bool, false, ◌&&◌, ◌||◌, length, is_none, nat_eq, nat_le, Some, None}
 use Rattle.std.specs.List.{list_any}
 use Rattle.std.specs.declared.option.Option.{Option}
 use Rattle.outside.specs.declared.memory.failures.Failing.{Failing}
@@ -16,3 +16,7 @@ is_failing failing call = list_any (λ n. nat_eq n call) failing.calls.items || 
 -- no call is to fail
 abbrev pub IsQuiet : Failing → Type 0
 IsQuiet failing = (failing.calls.items ≡ []) × (failing.from ≡ None)
+
+-- no call is to fail
+abbrev pub is_quiet : Failing → Bool
+is_quiet failing = nat_eq (length failing.calls.items) 0 && is_none failing.from

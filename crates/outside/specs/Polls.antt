@@ -8,6 +8,12 @@ IfBytes (Got.Bytes n) P = P n
 IfBytes Got.NotReady P = ⊤
 IfBytes Got.Fault P = ⊤
 
+-- it gave bytes
+abbrev pub IsBytes : Got → Type 0
+IsBytes (Got.Bytes n) = ⊤
+IsBytes Got.NotReady = ⊥
+IsBytes Got.Fault = ⊥
+
 -- P holds where it wasn't ready
 abbrev pub OnNotReady : Got → Type 0 → Type 0
 OnNotReady (Got.Bytes n) P = ⊤

@@ -1,8 +1,8 @@
 //! Which calls of a store in memory are to fail, and how many of each kind there were.
 
-ghost use Rattle.std.specs.Prelude.{◌≡◌, [], IfOk, ℕ};
-ghost use Rattle.outside.specs.Calls.{IsFresh, fails_next, after_call, change_fails, change_happens, after_change, is_listed_for};
-ghost use Rattle.outside.specs.Failures.{is_failing, IsQuiet};
+ghost use Rattle.std.specs.Prelude.{◌≡◌, [], IfOk, IsTrue, ℕ};
+ghost use Rattle.outside.specs.Calls.{IsFresh, fails_next, after_call, change_fails, change_happens, after_change, is_listed_for, is_none_listed};
+ghost use Rattle.outside.specs.Failures.{is_failing, is_quiet, IsQuiet};
 
 use crate::memory::failures::Failing;
 use std::alloc::{AllocError, Global};
@@ -141,7 +141,8 @@ pub(crate) fn listed_for(
     told: &[ByNumber],
     number: u64,
 ) -> Result<Failing, AllocError>
-    ensures { IfOk result (λ failing. (call : ℕ) → is_failing failing call ≡ is_listed_for told.now number call) }
+    ensures each { IfOk result (λ failing. (call : ℕ) → is_failing failing call ≡ is_listed_for told.now number call) }
+    ensures none { IsTrue (is_none_listed told.now) → IfOk result (λ failing. IsTrue (is_quiet failing)) }
 {
     for one in told {
         if one.number == number {

@@ -1,6 +1,6 @@
 //! The readers of a store in memory.
 
-ghost use Rattle.std.specs.Prelude.{◌≡◌, ◌≤◌, ◌<◌, ◌+◌, [], None, Some, length, take};
+ghost use Rattle.std.specs.Prelude.{◌≡◌, ◌≤◌, ◌<◌, ◌+◌, [], None, Some, IsTrue, length, take};
 
 use crate::memory::failures::Failing;
 use crate::memory::inputs::copy_front;
@@ -28,7 +28,7 @@ pub struct MemReader {
 }
 
 impl MemReader {
-    ghost use Rattle.outside.specs.Readers.{unread_of};
+    ghost use Rattle.outside.specs.Readers.{is_steady_reader, unread_of};
 
     /// A reader that has all of these bytes left, whose polls don't fail and are ready; takes no
     /// memory.
@@ -36,6 +36,7 @@ impl MemReader {
         ensures left { unread_of result ≡ bytes.items }
         ensures failing { (result.failing.calls.items ≡ []) × (result.failing.from ≡ None) }
         ensures waiting { (result.waiting.calls.items ≡ []) × (result.waiting.from ≡ None) }
+        ensures steady { IsTrue (is_steady_reader result) }
         ensures counts { (result.calls ≡ 0) × (result.faults ≡ 0) × (result.waits ≡ 0) }
     {
         let alloc = *bytes.allocator();
@@ -55,8 +56,8 @@ impl ObjectRead for MemReader {
     ghost use Rattle.outside.specs.Causes.{next_count, Rose};
     ghost use Rattle.outside.specs.Counts.{counted};
     ghost use Rattle.outside.specs.Failures.{is_failing};
-    ghost use Rattle.outside.specs.Polls.{IfBytes, OnFault, OnNotReady, is_fault, is_not_ready};
-    ghost use Rattle.outside.specs.Readers.{poll_of, unread_of};
+    ghost use Rattle.outside.specs.Polls.{IfBytes, IsBytes, OnFault, OnNotReady, is_fault, is_not_ready};
+    ghost use Rattle.outside.specs.Readers.{is_steady_reader, poll_of, unread_of};
     ghost use Rattle.outside.specs.Streams.{Gives};
 
     ghost left = { λ reader. Some (unread_of reader) };
@@ -66,6 +67,8 @@ impl ObjectRead for MemReader {
     ghost faults = { λ reader. reader.faults };
 
     ghost waits = { λ reader. reader.waits };
+
+    ghost steady = { is_steady_reader };
 
     fn due(&self) -> u64 {
         (self.bytes.len() - self.at) as u64
@@ -87,6 +90,9 @@ impl ObjectRead for MemReader {
 
         ensures failed { OnFault result (Rose self.old.faults self.new.faults) }
         ensures faults_later { self.old.faults ≤ self.new.faults }
+
+        ensures gives { IsTrue (is_steady_reader self.old) → IsBytes result }
+        ensures steady { is_steady_reader self.new ≡ is_steady_reader self.old }
 
         ensures answer { result ≡ poll_of self.old (length buf.old) }
         ensures calls { self.new.calls ≡ next_count self.old.calls }

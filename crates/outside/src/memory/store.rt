@@ -4,10 +4,10 @@ ghost use Rattle.std.specs.Prelude.{◌≡◌, ◌⊎◌, ◌<◌, ◌≤◌, �
 ghost use Rattle.std.specs.Option.{option_copied};
 ghost use Rattle.outside.specs.Causes.{HasCause, Rose, next_count};
 ghost use Rattle.outside.specs.Counts.{counted};
-ghost use Rattle.outside.specs.Failures.{is_failing};
-ghost use Rattle.outside.specs.Calls.{IsFresh, after_call, after_change, fails_next, is_last, is_listed_for};
+ghost use Rattle.outside.specs.Failures.{is_failing, is_quiet};
+ghost use Rattle.outside.specs.Calls.{IsFresh, after_call, after_change, are_polls_quiet, fails_next, is_last, is_listed_for, is_steady};
 ghost use Rattle.outside.specs.Contents.{Changes, Happens, IsCrossed, IsFirst, IsMoveCrossed, IsRange, IsSame, IsThinned, SaysThere, emptied, is_after, is_short, moved, put_at};
-ghost use Rattle.outside.specs.Readers.{unread_of};
+ghost use Rattle.outside.specs.Readers.{is_steady_reader, unread_of};
 ghost use Rattle.outside.specs.Stored.{held, renamed, without};
 
 use crate::key::Key;
@@ -60,6 +60,7 @@ fn reader_over(alloc: Global, range: &[u8], calls: &StoreCalls) -> Result<MemRea
     ensures left { IfOk result (λ reader. unread_of reader ≡ range.now) }
     ensures failing_polls { IfOk result (λ reader. (poll : ℕ) → is_failing reader.failing poll ≡ is_listed_for calls.now.failing_polls.items calls.now.begin_reads.count poll) }
     ensures waiting_polls { IfOk result (λ reader. (poll : ℕ) → is_failing reader.waiting poll ≡ is_listed_for calls.now.waiting_polls.items calls.now.begin_reads.count poll) }
+    ensures steady { IsTrue (are_polls_quiet calls.now) → IfOk result (λ reader. IsTrue (is_steady_reader reader)) }
     ensures fresh { IfOk result (λ reader. (reader.calls ≡ 0) × (reader.faults ≡ 0) × (reader.waits ≡ 0)) }
 {
     let number = calls.begin_reads.count;
@@ -76,6 +77,7 @@ impl MemObjects {
     pub fn new(alloc: Global) -> MemObjects
         ensures objects { result.objects ≡ [] }
         ensures calls { IsFresh result.calls }
+        ensures steady { IsTrue (is_steady result.calls) }
         ensures counts { (result.faults ≡ 0) × (result.misses ≡ 0) × (result.changes ≡ 0) }
     {
         MemObjects {
@@ -202,11 +204,14 @@ impl Objects for MemObjects {
 
     ghost changes = { λ store. store.changes };
 
+    ghost steady = { λ store. is_steady store.calls };
+
     /// Fails exactly where it was told to, and at a miss. The reader is told its polls by the number
     /// of the call.
     fn begin_read(&mut self, key: &Key, at: u64, len: u64) -> Result<MemReader, Fail>
         ensures range { IfOk result (λ reader. IsRange (Some (held self.old.objects)) key.now at len (Some (unread_of reader))) }
         ensures due { IfOk result (λ reader. length (unread_of reader) ≡ len) }
+        ensures reads { IfOk result (λ reader. IsTrue (is_steady self.old.calls) → IsTrue (is_steady_reader reader)) }
 
         ensures failed { result ≡ Err Fail.Failed → Rose self.old.faults self.new.faults ⊎ IsTrue (is_short (Some (held self.old.objects)) key.now (at + len)) }
         ensures missed { IsTrue (is_short (Some (held self.old.objects)) key.now (at + len)) → (result ≡ Err Fail.Failed) × Rose self.old.misses self.new.misses }
@@ -215,6 +220,7 @@ impl Objects for MemObjects {
 
         ensures told { Some (held self.new.objects) ≡ Some (held self.old.objects) }
         ensures changes { self.new.changes ≡ self.old.changes }
+        ensures steady { is_steady self.new.calls ≡ is_steady self.old.calls }
 
         ensures listed { IsTrue (fails_next self.old.calls.begin_reads) → result ≡ Err Fail.Failed }
         ensures unlisted { fails_next self.old.calls.begin_reads ≡ false → result ≡ Err Fail.Failed → IsTrue (is_short (Some (held self.old.objects)) key.now (at + len)) }
@@ -240,6 +246,7 @@ impl Objects for MemObjects {
     fn begin_write(&mut self) -> Result<MemWriter, Fail>
         ensures empty { IfOk result (λ writer. Some writer.bytes.items ≡ option_map (λ _. []) (Some (held self.old.objects))) }
         ensures written { IfOk result (λ writer. length writer.bytes.items ≡ 0) }
+        ensures writes { IfOk result (λ writer. IsTrue (is_steady self.old.calls) → IsTrue (is_quiet writer.failing)) }
 
         ensures failed { result ≡ Err Fail.Failed → Rose self.old.faults self.new.faults }
         ensures later { self.old.faults ≤ self.new.faults }
@@ -247,6 +254,7 @@ impl Objects for MemObjects {
 
         ensures told { Some (held self.new.objects) ≡ Some (held self.old.objects) }
         ensures changes { self.new.changes ≡ self.old.changes }
+        ensures steady { is_steady self.new.calls ≡ is_steady self.old.calls }
 
         ensures listed { IsTrue (fails_next self.old.calls.begin_writes) → result ≡ Err Fail.Failed }
         ensures unlisted { fails_next self.old.calls.begin_writes ≡ false → result ≡ Err Fail.Failed → ⊥ }
@@ -278,6 +286,7 @@ impl Objects for MemObjects {
         ensures later { self.old.faults ≤ self.new.faults }
 
         ensures changes { Changes (Some (held self.old.objects)) (Some (held self.new.objects)) self.old.changes self.new.changes }
+        ensures steady { is_steady self.new.calls ≡ is_steady self.old.calls }
 
         ensures answer { is_err result ≡ (finish_fails self.old || finish_misses self.old key) }
         ensures calls { self.new.calls ≡ record self.old.calls { finishes = after_change self.old.calls.finishes } }
@@ -300,6 +309,7 @@ impl Objects for MemObjects {
         ensures later { self.old.faults ≤ self.new.faults }
 
         ensures changes { Changes (Some (held self.old.objects)) (Some (held self.new.objects)) self.old.changes self.new.changes }
+        ensures steady { is_steady self.new.calls ≡ is_steady self.old.calls }
 
         ensures answer { is_err result ≡ (rename_fails self.old || rename_misses self.old from.now to) }
         ensures calls { self.new.calls ≡ record self.old.calls { renames = after_change self.old.calls.renames } }
@@ -320,6 +330,7 @@ impl Objects for MemObjects {
         ensures misses { self.new.misses ≡ self.old.misses }
 
         ensures changes { Changes (Some (held self.old.objects)) (Some (held self.new.objects)) self.old.changes self.new.changes }
+        ensures steady { is_steady self.new.calls ≡ is_steady self.old.calls }
 
         ensures answer { is_err result ≡ remove_fails self.old }
         ensures calls { self.new.calls ≡ record self.old.calls { removes = after_change self.old.calls.removes } }
@@ -340,6 +351,7 @@ impl Objects for MemObjects {
 
         ensures told { Some (held self.new.objects) ≡ Some (held self.old.objects) }
         ensures changes { self.new.changes ≡ self.old.changes }
+        ensures steady { is_steady self.new.calls ≡ is_steady self.old.calls }
 
         ensures listed { IsTrue (fails_next self.old.calls.next_keys) → result ≡ Err Fail.Failed }
         ensures unlisted { fails_next self.old.calls.next_keys ≡ false → result ≡ Err Fail.Failed → ⊥ }
@@ -368,6 +380,7 @@ impl Objects for MemObjects {
         ensures misses { self.new.misses ≡ self.old.misses }
 
         ensures changes { Changes (Some (held self.old.objects)) (Some (held self.new.objects)) self.old.changes self.new.changes }
+        ensures steady { is_steady self.new.calls ≡ is_steady self.old.calls }
 
         ensures answer { is_err result ≡ clear_fails self.old }
         ensures calls { self.new.calls ≡ record self.old.calls { clears = after_call self.old.calls.clears } }

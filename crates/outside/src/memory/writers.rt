@@ -1,10 +1,10 @@
 //! The writers of a store in memory, and the objects that they make.
 
-ghost use Rattle.std.specs.Prelude.{◌≡◌, ◌≤◌, ◌+◌, ◌-◌, ◌∷◌, [], None, Some, length, IfOk, OnOk, OnErr, IsOk, is_err, vec_len, vec_capacity};
+ghost use Rattle.std.specs.Prelude.{◌≡◌, ◌≤◌, ◌+◌, ◌-◌, ◌∷◌, [], None, Some, length, IfOk, OnOk, OnErr, IsOk, IsTrue, is_err, vec_len, vec_capacity};
 ghost use Rattle.std.specs.LinkedList.{linked_list_len};
 ghost use Rattle.outside.specs.Causes.{HasCause, next_count};
 ghost use Rattle.outside.specs.Counts.{counted};
-ghost use Rattle.outside.specs.Failures.{is_failing};
+ghost use Rattle.outside.specs.Failures.{is_failing, is_quiet};
 ghost use Rattle.outside.specs.Streams.{Takes};
 
 use crate::key::Key;
@@ -84,6 +84,8 @@ impl ObjectWrite for MemWriter {
 
     ghost faults = { λ writer. writer.faults };
 
+    ghost steady = { λ writer. is_quiet writer.failing };
+
     /// Fails for want of memory alone, which doesn't come while so many bytes fit.
     fn reserve(&mut self, count: u64) -> Result<(), AllocError>
         ensures spare { OnOk result (count ≤ vec_capacity self.new.bytes - length self.new.bytes.items) }
@@ -91,6 +93,7 @@ impl ObjectWrite for MemWriter {
         ensures taken { Some self.new.bytes.items ≡ Some self.old.bytes.items }
         ensures written { length self.new.bytes.items ≡ length self.old.bytes.items }
         ensures faults { self.new.faults ≡ self.old.faults }
+        ensures steady { is_quiet self.new.failing ≡ is_quiet self.old.failing }
 
         ensures fits { count ≤ vec_capacity self.old.bytes - length self.old.bytes.items → IsOk result }
         ensures kept { (self.new.failing ≡ self.old.failing) × (self.new.calls ≡ self.old.calls) }
@@ -105,6 +108,9 @@ impl ObjectWrite for MemWriter {
         ensures written { OnOk result (length self.new.bytes.items ≡ length self.old.bytes.items + length piece.now) }
         ensures spare { OnOk result (vec_capacity self.old.bytes - length self.old.bytes.items ≤ vec_capacity self.new.bytes - length self.new.bytes.items + length piece.now) }
         ensures cause { HasCause self.old.faults self.new.faults result }
+
+        ensures takes { IsTrue (is_quiet self.old.failing) → IsOk result }
+        ensures steady { is_quiet self.new.failing ≡ is_quiet self.old.failing }
 
         ensures answer { is_err result ≡ is_failing self.old.failing (next_count self.old.calls) }
         ensures nothing { OnErr result (self.new.bytes.items ≡ self.old.bytes.items) }
