@@ -4,7 +4,7 @@
 #[cfg(test)]
 mod tests;
 
-ghost use Rattle.std.specs.Prelude.{◌≡◌, ◌<◌, ◌≤◌, ◌+◌, length, take};
+ghost use Rattle.std.specs.Prelude.{◌≡◌, ◌<◌, ◌≤◌, ◌+◌, false, length, take};
 ghost use Rattle.outside.specs.Causes.{Rose};
 ghost use Rattle.outside.specs.Streams.{Gives};
 ghost use Rattle.block_stream.specs.Polls.{IfPiece, OnNotReady, OnEnd, OnFault};
@@ -43,7 +43,8 @@ impl<R: ObjectRead> BlockStream<R> {
     ///
     /// `End` comes exactly where no byte is due, and leaves the stream as it was. `NotReady` comes
     /// only where the reader's waits rose in this call, and leaves what is due and what is left as
-    /// they were. `Fault` comes only where the reader's faults rose in this call.
+    /// they were. `Fault` comes only where the reader's faults rose in this call. Of a steady reader
+    /// neither comes.
     pub fn poll_into(&mut self, buf: &mut [u8]) -> Polled
         requires { 0 < length buf.old }
 
@@ -61,6 +62,10 @@ impl<R: ObjectRead> BlockStream<R> {
 
         ensures failed { OnFault result (Rose (R.faults self.old.reader) (R.faults self.new.reader)) }
         ensures faults_later { R.faults self.old.reader ≤ R.faults self.new.reader }
+
+        ensures waits_unsteady { OnNotReady result (R.steady self.old.reader ≡ false) }
+        ensures fails_unsteady { OnFault result (R.steady self.old.reader ≡ false) }
+        ensures steady { R.steady self.new.reader ≡ R.steady self.old.reader }
     {
         if self.reader.due() == 0 {
             return Polled::End;

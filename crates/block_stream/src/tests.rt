@@ -1,6 +1,6 @@
 //! A block's stream over a reader that plays a list of polls.
 
-ghost use Rattle.std.specs.Prelude.{◌≡◌, None};
+ghost use Rattle.std.specs.Prelude.{◌≡◌, None, false};
 
 use crate::{BlockStream, Polled};
 use outside::objects::{Got, ObjectRead};
@@ -66,6 +66,8 @@ impl ObjectRead for Listed {
     ghost faults = { λ reader. reader.faults };
 
     ghost waits = { λ reader. reader.waits };
+
+    ghost steady = { λ _. false };
 
     fn due(&self) -> u64 {
         self.due

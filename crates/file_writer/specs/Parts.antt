@@ -1,12 +1,12 @@
 -- The open block and the object, by the machine's words, and what they keep room for.
-use Rattle.std.specs.Prelude.{ℕ, ◌≡◌, ◌≤◌, ◌<◌, ◌+◌, ◌-◌, ⊤, Bool, false, List, length, Option, None, Some, IfSome, option_map}
+use Rattle.std.specs.Prelude.{ℕ, ◌≡◌, ◌≤◌, ◌<◌, ◌+◌, ◌-◌, ⊤, Bool, true, false, List, length, Option, None, Some, IfSome, option_map}
 use Rattle.fs_model.specs.State.{OpenBlock}
 use Rattle.fs_model.specs.BytesOutcomes.{lacks}
 use Rattle.outside.specs.declared.objects.ObjectWrite as writes
 use Rattle.file_writer.specs.declared.pen.Pen.{Pen}
 use Rattle.file_writer.specs.declared.parts.Block.{Block}
 use Rattle.file_writer.specs.declared.parts.Object.{Object}
-use Rattle.file_writer.specs.Pens.{HasSpare, IsBroken, PenKeeps, PenTakes, pen_faults, pen_of, pen_tells}
+use Rattle.file_writer.specs.Pens.{HasSpare, IsBroken, is_pen_steady, PenKeeps, PenTakes, pen_faults, pen_of, pen_tells}
 use Rattle.file_writer.specs.declared.pen.Pen.TheVariants.{Open, Broken, Gone}
 
 -- an open block as the machine has it; which room it has isn't known here
@@ -44,6 +44,16 @@ block_tells w (Some b) = pen_tells w b.pen
 abbrev pub object_tells : {W : Type 0} → writes.Ghosts W → Option (Object W) → Bool
 object_tells w None = false
 object_tells w (Some o) = pen_tells w o.pen
+
+-- whether the open block's writer is steady, if there is one
+abbrev pub is_block_steady : {W : Type 0} → writes.Ghosts W → Option (Block W) → Bool
+is_block_steady w None = true
+is_block_steady w (Some b) = is_pen_steady w b.pen
+
+-- whether the object's writer is steady, if there is one
+abbrev pub is_object_steady : {W : Type 0} → writes.Ghosts W → Option (Object W) → Bool
+is_object_steady w None = true
+is_object_steady w (Some o) = is_pen_steady w o.pen
 
 -- ---- room
 

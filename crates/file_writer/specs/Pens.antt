@@ -1,5 +1,5 @@
 -- What a pen has, takes and counts.
-use Rattle.std.specs.Prelude.{ℕ, ◌≡◌, ◌≤◌, ◌+◌, ⊤, Bool, false, List, length, Option, None, Some, IfSome, is_some}
+use Rattle.std.specs.Prelude.{ℕ, ◌≡◌, ◌≤◌, ◌+◌, ⊤, Bool, true, false, List, length, Option, None, Some, IfSome, is_some}
 use Rattle.outside.specs.Streams.{Takes}
 use Rattle.outside.specs.declared.objects.ObjectWrite as writes
 use Rattle.file_writer.specs.declared.pen.Pen.{Pen}
@@ -27,6 +27,12 @@ abbrev pub pen_tells : {W : Type 0} → writes.Ghosts W → Pen W → Bool
 pen_tells w (Open writer) = is_some (w.taken writer)
 pen_tells w (Broken writer) = is_some (w.taken writer)
 pen_tells w Gone = false
+
+-- whether the pen's writer is steady, if it has one
+abbrev pub is_pen_steady : {W : Type 0} → writes.Ghosts W → Pen W → Bool
+is_pen_steady w (Open writer) = w.steady writer
+is_pen_steady w (Broken writer) = w.steady writer
+is_pen_steady w Gone = true
 
 -- an open pen takes so many bytes more without memory
 abbrev pub HasSpare : {W : Type 0} → writes.Ghosts W → ℕ → Pen W → Type 0

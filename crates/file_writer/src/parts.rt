@@ -1,9 +1,9 @@
 //! The open block of a file's writer, and its object in a store.
 
-ghost use Rattle.std.specs.Prelude.{◌≡◌, ◌≤◌, ◌<◌, ◌+◌, ◌^◌, length, IfSome, IsSomeAnd, OnOk};
+ghost use Rattle.std.specs.Prelude.{◌≡◌, ◌≤◌, ◌<◌, ◌+◌, ◌^◌, false, length, IfSome, IsSomeAnd, OnOk};
 ghost use Rattle.outside.specs.Causes.{Rose};
-ghost use Rattle.file_writer.specs.Pens.{HasSpare, IsBroken, pen_faults, pen_tells};
-ghost use Rattle.file_writer.specs.Parts.{BlockStops, BlockTakes, ObjectBreaks, ObjectTakes, object_faults, object_tells};
+ghost use Rattle.file_writer.specs.Pens.{HasSpare, IsBroken, is_pen_steady, pen_faults, pen_tells};
+ghost use Rattle.file_writer.specs.Parts.{BlockStops, BlockTakes, ObjectBreaks, ObjectTakes, is_object_steady, object_faults, object_tells};
 ghost use Rattle.file_writer.specs.Fails.{IfBlock, IfObject};
 
 use crate::pen::Pen;
@@ -55,6 +55,11 @@ pub(crate) fn put_in<W: ObjectWrite>(
 
     ensures block_later { pen_faults W.ObjectWrite block.old.pen ≤ pen_faults W.ObjectWrite block.new.pen }
     ensures object_later { object_faults W.ObjectWrite object.old ≤ object_faults W.ObjectWrite object.new }
+
+    ensures tier_unsteady { IfBlock result (is_pen_steady W.ObjectWrite block.old.pen ≡ false) }
+    ensures under_unsteady { IfObject result (λ _. is_object_steady W.ObjectWrite object.old ≡ false) }
+    ensures block_steady { is_pen_steady W.ObjectWrite block.new.pen ≡ is_pen_steady W.ObjectWrite block.old.pen }
+    ensures object_steady { is_object_steady W.ObjectWrite object.new ≡ is_object_steady W.ObjectWrite object.old }
 {
     match block.pen.put(piece) {
         Ok(()) => {}

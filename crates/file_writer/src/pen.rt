@@ -1,8 +1,8 @@
 //! The writer of a block or of an object, and what became of it.
 
-ghost use Rattle.std.specs.Prelude.{◌≡◌, ◌≤◌, length, OnOk, OnErr};
+ghost use Rattle.std.specs.Prelude.{◌≡◌, ◌≤◌, false, length, OnOk, OnErr};
 ghost use Rattle.outside.specs.Causes.{HasCause};
-ghost use Rattle.file_writer.specs.Pens.{HasSpare, IsBroken, IsOpen, PenKeeps, PenTakes, broken, pen_faults, pen_of, pen_tells, writer_of};
+ghost use Rattle.file_writer.specs.Pens.{HasSpare, IsBroken, IsOpen, is_pen_steady, PenKeeps, PenTakes, broken, pen_faults, pen_of, pen_tells, writer_of};
 
 use outside::objects::ObjectWrite;
 use outside::stream::Fault;
@@ -38,6 +38,8 @@ impl<W: ObjectWrite> Pen<W> {
         ensures tells { OnOk result (pen_tells W.ObjectWrite self.new ≡ pen_tells W.ObjectWrite self.old) }
         ensures broke { OnErr result (IsOpen self.old × IsBroken self.new) }
         ensures cause { HasCause (pen_faults W.ObjectWrite self.old) (pen_faults W.ObjectWrite self.new) result }
+        ensures unsteady { OnErr result (is_pen_steady W.ObjectWrite self.old ≡ false) }
+        ensures steady { is_pen_steady W.ObjectWrite self.new ≡ is_pen_steady W.ObjectWrite self.old }
     {
         match mem::replace(self, Pen::Gone) {
             Pen::Open(mut writer) => match writer.put(piece) {
@@ -60,7 +62,8 @@ impl<W: ObjectWrite> Pen<W> {
 
     /// It takes no more.
     pub(crate) fn spoil(&mut self)
-        ensures { self.new ≡ broken self.old }
+        ensures broken { self.new ≡ broken self.old }
+        ensures steady { is_pen_steady W.ObjectWrite self.new ≡ is_pen_steady W.ObjectWrite self.old }
     {
         match mem::replace(self, Pen::Gone) {
             Pen::Open(writer) => *self = Pen::Broken(writer),
@@ -86,6 +89,7 @@ impl<W: ObjectWrite> Pen<W> {
         ensures spare { OnOk result (HasSpare W.ObjectWrite count self.new) }
         ensures keeps { PenKeeps W.ObjectWrite self.old self.new }
         ensures tells { pen_tells W.ObjectWrite self.new ≡ pen_tells W.ObjectWrite self.old }
+        ensures steady { is_pen_steady W.ObjectWrite self.new ≡ is_pen_steady W.ObjectWrite self.old }
     {
         match self {
             Pen::Open(writer) => writer.reserve(count),

@@ -1,6 +1,6 @@
 //! A file's writer in blocks of four bytes, over writers of which one put may fail.
 
-ghost use Rattle.std.specs.Prelude.{◌≡◌, ◌≤◌, [], Some, IfSome, IfOk, OnOk, length};
+ghost use Rattle.std.specs.Prelude.{◌≡◌, ◌≤◌, [], Some, false, IfSome, IfOk, OnOk, length};
 
 use crate::writer::{FileWriter, PutStep};
 use fs_model::numbers::{StoreNo, WorkerNo};
@@ -44,6 +44,8 @@ impl ObjectWrite for Page {
     ghost spare = { λ page. page.room };
 
     ghost faults = { λ page. page.faults };
+
+    ghost steady = { λ _. false };
 
     fn reserve(&mut self, count: u64) -> Result<(), AllocError> {
         self.room = self.room.max(count);

@@ -1,10 +1,10 @@
 //! A file's writer.
 
-ghost use Rattle.std.specs.Prelude.{◌≡◌, ◌≤◌, ◌<◌, ◌+◌, ◌++◌, List, ℕ, [], min, length, take, true, None, Some, IfSome, IsSomeAnd, IsOk, OnOk, option_map};
+ghost use Rattle.std.specs.Prelude.{◌≡◌, ◌≤◌, ◌<◌, ◌+◌, ◌++◌, List, ℕ, [], min, length, take, true, false, None, Some, IfSome, IsSomeAnd, IsOk, OnOk, option_map};
 ghost use Rattle.fs_model.specs.BytesOutcomes.{lacks};
 ghost use Rattle.outside.specs.Causes.{Rose};
 ghost use Rattle.file_writer.specs.Pens.{HasSpare, IsBroken, Tells, WriterHas};
-ghost use Rattle.file_writer.specs.Parts.{BlockStops, BlockTakes, ObjectBreaks, ObjectKeeps, ObjectTakes, block_faults, block_tells, empty_block, object_faults, object_of, object_tells, open_block};
+ghost use Rattle.file_writer.specs.Parts.{BlockStops, BlockTakes, ObjectBreaks, ObjectKeeps, ObjectTakes, block_faults, block_tells, empty_block, is_block_steady, is_object_steady, object_faults, object_of, object_tells, open_block};
 ghost use Rattle.file_writer.specs.Writing.{Stops, TakesPiece, block_writer, counted, number_of, object_writer, wants_room, without_writer};
 ghost use Rattle.file_writer.specs.Steps.{IfTaken, IfTierFault, IfUnderFault, OnNeedsRoom, fault_of};
 ghost use Rattle.file_writer.specs.Taken.{HasTaken, open_bytes};
@@ -119,7 +119,8 @@ impl<T: ObjectWrite> FileWriter<T> {
     /// `NeedsRoom` comes exactly where no block is open or the open one is full, and changes nothing.
     /// Else it is `Taken` with the lesser of the piece's length and what the block lacks, or a fault:
     /// `TierFault` with the worker (0 for none) only where the faults of the open block's writer rose
-    /// in this call, `UnderFault` with the store only where those of the object's writer did. After a
+    /// in this call, `UnderFault` with the store only where those of the object's writer did; that of
+    /// a steady writer never comes. After a
     /// fault the lengths stand and the open block's writer takes no more; nothing is promised of
     /// bytes then, and what is left is to drop it or to take its parts out.
     pub fn put(&mut self, piece: &[u8]) -> PutStep
@@ -142,6 +143,12 @@ impl<T: ObjectWrite> FileWriter<T> {
 
         ensures block_later { block_faults T.ObjectWrite self.old.block ≤ block_faults T.ObjectWrite self.new.block }
         ensures object_later { object_faults T.ObjectWrite self.old.object ≤ object_faults T.ObjectWrite self.new.object }
+
+        // A steady writer doesn't fail.
+        ensures tier_unsteady { IfTierFault result (λ _. is_block_steady T.ObjectWrite self.old.block ≡ false) }
+        ensures under_unsteady { IfUnderFault result (λ _. is_object_steady T.ObjectWrite self.old.object ≡ false) }
+        ensures block_steady { is_block_steady T.ObjectWrite self.new.block ≡ is_block_steady T.ObjectWrite self.old.block }
+        ensures object_steady { is_object_steady T.ObjectWrite self.new.object ≡ is_object_steady T.ObjectWrite self.old.object }
     {
         let block = match &mut self.block {
             None => return PutStep::NeedsRoom,
@@ -217,6 +224,7 @@ impl<T: ObjectWrite> FileWriter<T> {
         ensures fields { self.new ≡ record self.old { object = self.new.object } }
         ensures object { ObjectKeeps T.ObjectWrite self.old.object self.new.object }
         ensures tells { object_tells T.ObjectWrite self.new.object ≡ object_tells T.ObjectWrite self.old.object }
+        ensures steady { is_object_steady T.ObjectWrite self.new.object ≡ is_object_steady T.ObjectWrite self.old.object }
         ensures bytes { (bytes : List ℕ) → HasTaken T.ObjectWrite self.old bytes → HasTaken T.ObjectWrite self.new bytes }
     {
         match &mut self.object {
