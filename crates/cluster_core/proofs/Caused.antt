@@ -1,10 +1,15 @@
 -- Why events answer faults and waits, whatever the core stands for: each event's answer is a line of these.
-use Rattle.std.proofs.Common.{◌≡◌, ℕ, ◌<◌, arith, pred, false, List, get_or, Option, Some, None, inl, inr, refl, sym, ap, subst}
-use Rattle.std.specs.Prelude.{IsSomeAnd, slice_get}
+use Rattle.std.proofs.Common.{◌≡◌, ℕ, ◌<◌, ◌+◌, arith, pred, Bool, true, false, not, ◌&&◌, List, [], ◌∷◌, get_or, Option, Some, None, inl, inr, refl, sym, ap, subst}
+use Rattle.std.specs.Prelude.{IfSome, IsSomeAnd, is_none, is_some, nat_eq, nat_le, nat_lt, slice_get}
+use Rattle.fs_model.specs.declared.event.Event.{Event}
 use Rattle.fs_model.specs.declared.event.Fill.{Fill}
 use Rattle.fs_model.specs.declared.reply.Reply.{Reply}
 use Rattle.fs_model.specs.declared.reply.Refusal.{Refusal}
+use Rattle.fs_model.specs.declared.path.Path.{Path}
+use Rattle.fs_model.specs.Lookups.{Walk, find_node, walk_above, walk_nodes}
 use Rattle.fs_model.specs.State.{NodeRow}
+use Rattle.fs_model.specs.Tests.{walk_fault, ◌only_if◌}
+use Rattle.fs_model.specs.Words.{block_count, first, path_len, ◌when◌}
 use Rattle.outside.specs.Keys.{KeyNames}
 use Rattle.outside.specs.declared.objects.Objects as objects
 use Rattle.outside.specs.declared.objects.ObjectRead as reads
@@ -15,11 +20,13 @@ use Rattle.cluster_core.specs.Committed.{closed_writer}
 use Rattle.cluster_core.specs.Goes.{AtLabel, HandRose, HandWaited}
 use Rattle.cluster_core.specs.HandChanges.{AddsHand, EndsHand}
 use Rattle.cluster_core.specs.Media.{TiersStay, MediaStays}
+use Rattle.cluster_core.specs.Names.{NamesView, is_full, is_numbered_out, is_short, place_test}
 use Rattle.cluster_core.specs.Opened.{FailsNode}
 use Rattle.cluster_core.specs.Polls.{reply_of, Waited, Lost, SourcePolls, PollOf, HandPolls}
 use Rattle.cluster_core.specs.Putting.{put_reply, DidPut, DidIn}
 use Rattle.cluster_core.specs.Seeks.{HandSeeks, SeeksOf, FailsRow, copy_at, found_reply}
 use Rattle.cluster_core.specs.Tiers.{At, ChangesAt, Counts, IsFaultOrCrossed, IsFaultOrShort}
+use Rattle.cluster_core.specs.Tests.{Circumstance, create_test, done_test, file_there, open_test, passes_file}
 use Rattle.cluster_core.specs.Writers.{Loses}
 use Rattle.cluster_core.specs.declared.cluster.Core.{Core}
 use Rattle.cluster_core.specs.declared.hand.Hand.{Hand}
@@ -43,8 +50,58 @@ use Rattle.cluster_core.proofs.StreamsGo.{at_set, there_is}
 only_more : {P Q : ℕ → Type 0} (reply : Reply) → ((v : ℕ) → P v → Q v) → OnlyTier P reply → OnlyTier Q reply
 only_more (Reply.Refused (Refusal.TierFault v)) gives h = gives v h
 only_more (Reply.Refused (Refusal.UnderFault s)) gives h = absurd h
+only_more (Reply.Refused Refusal.JournalFault) gives h = absurd h
 only_more Reply.NotReady gives h = absurd h
 only_more reply gives h = tt
+
+-- no device gave the answer
+abbrev IsCalm : Reply → Type 0
+IsCalm = OnlyTier (λ v. ⊥)
+
+first_calm : (t : Option Reply) (ts : List (Option Reply)) → IfSome t IsCalm → IfSome (first ts) IsCalm → IfSome (first (t ∷ ts)) IsCalm
+first_calm None ts h more = more
+first_calm (Some x) ts h more = h
+
+when_calm : (x : Reply) (b : Bool) → IsCalm x → IfSome (x when b) IsCalm
+when_calm x true h = h
+when_calm x false h = tt
+
+only_calm : (t : Option Reply) (b : Bool) → IfSome t IsCalm → IfSome (t only_if b) IsCalm
+only_calm t true h = h
+only_calm t false h = tt
+
+walk_calm : (k : Walk) → IfSome (walk_fault k) IsCalm
+walk_calm (Walk.Found n) = tt
+walk_calm Walk.Absent = tt
+walk_calm Walk.Blocked = tt
+
+place_calm : (names : NamesView) (p : Path) → IfSome (place_test names p) IsCalm
+place_calm names p = first_calm (walk_fault (walk_above names.nodes p)) _ (walk_calm (walk_above names.nodes p)) (first_calm _ [] (when_calm _ (is_some (find_node names.nodes p)) tt) tt)
+
+pub create_calm : (area : ℕ) (names : NamesView) (c : Circumstance) (p : Path) → IfSome (create_test area names c p) IsCalm
+create_calm area names c p =
+    first_calm _ _ (when_calm _ c.taken tt)
+    (first_calm (place_test names p) _ (place_calm names p)
+    (first_calm _ _ (when_calm _ (not (nat_eq c.worker 0) && not c.configured) tt)
+    (first_calm _ _ (when_calm _ (is_full names) tt)
+    (first_calm _ _ (when_calm _ (nat_le 64 c.labels) tt)
+    (first_calm _ _ (when_calm _ (is_numbered_out names) tt)
+    (first_calm _ _ (when_calm _ (is_short names area (15 + path_len p)) tt)
+    (first_calm _ [] (only_calm _ (not (nat_eq c.worker 0)) (when_calm _ (not c.live) tt)) tt)))))))
+
+done_calm : (names : NamesView) (p : Path) → IfSome (done_test names p) IsCalm
+done_calm names p =
+    first_calm (walk_fault (walk_nodes names.nodes p)) _ (walk_calm (walk_nodes names.nodes p))
+    (first_calm _ _ (when_calm _ (is_none (file_there names p)) tt)
+    (first_calm _ [] (when_calm _ (passes_file (λ f. not f.done) (file_there names p)) tt) tt))
+
+pub open_calm : (bs : ℕ) (names : NamesView) (c : Circumstance) (p : Path) → IfSome (open_test bs names c p) IsCalm
+open_calm bs names c p =
+    first_calm _ _ (when_calm _ c.taken tt)
+    (first_calm (done_test names p) _ (done_calm names p)
+    (first_calm _ _ (when_calm _ (not (nat_eq c.worker 0) && not c.configured) tt)
+    (first_calm _ _ (when_calm _ (nat_le 64 c.labels) tt)
+    (first_calm _ [] (when_calm _ (passes_file (λ f. nat_lt 65536 (block_count f.len bs)) (file_there names p)) tt) tt))))
 
 -- ---- tiers
 
@@ -115,19 +172,24 @@ module _ {S R W : Type 0} (o : objects.Ghosts S R W) where
 
 module _ {S R W : Type 0} (o : objects.Ghosts S R W) (r : reads.Ghosts R) (w : writes.Ghosts W) where
   -- an event that can only answer the fault of a tier
-  caused_by : (old new : Core S R W w) (who : ℕ) (reply : Reply) → OnlyTier (TierCounted o old new) reply → IsCaused o r w old new who reply
-  caused_by old new who (Reply.Refused (Refusal.TierFault v)) h = inl h
-  caused_by old new who (Reply.Refused (Refusal.UnderFault s)) h = absurd h
-  caused_by old new who Reply.NotReady h = absurd h
-  caused_by old new who reply h = tt
+  caused_by : (old new : Core S R W w) (who : ℕ) (e : Event) (reply : Reply) → OnlyTier (TierCounted o old new) reply → IsCaused o r w old new who e reply
+  caused_by old new who e (Reply.Refused (Refusal.TierFault v)) h = inl h
+  caused_by old new who e (Reply.Refused (Refusal.UnderFault s)) h = absurd h
+  caused_by old new who e (Reply.Refused Refusal.JournalFault) h = absurd h
+  caused_by old new who e Reply.NotReady h = absurd h
+  caused_by old new who e reply h = tt
+
+  -- a refusal by a test whose refusals no device gave
+  pub refused_caused : (old new : Core S R W w) (who : ℕ) (e : Event) (t : Option Reply) (why : Refusal) → IfSome t IsCalm → t ≡ Some (Reply.Refused why) → IsCaused o r w old new who e (Reply.Refused why)
+  refused_caused old new who e t why calm is = caused_by old new who e (Reply.Refused why) (only_more (Reply.Refused why) (λ v h. absurd h) (subst (λ q. IfSome q IsCalm) is calm))
 
   -- so it is after a hand was taken out, and before it is put back
-  caused_within : (a b c d : Core S R W w) (who : ℕ) (reply : Reply) → b.workers ≡ a.workers → d.workers ≡ c.workers → OnlyTier (TierCounted o b c) reply → IsCaused o r w a d who reply
-  caused_within a b c d who reply before after h = caused_by a d who reply (only_more reply (λ v. counted_within o a b c d v before after) h)
+  caused_within : (a b c d : Core S R W w) (who : ℕ) (e : Event) (reply : Reply) → b.workers ≡ a.workers → d.workers ≡ c.workers → OnlyTier (TierCounted o b c) reply → IsCaused o r w a d who e reply
+  caused_within a b c d who e reply before after h = caused_by a d who e reply (only_more reply (λ v. counted_within o a b c d v before after) h)
 
   -- a source was sought
-  pub next_caused : (a b c d : Core S R W w) (who : ℕ) → b.workers ≡ a.workers → d.workers ≡ c.workers → (rows : List NodeRow) (bs : ℕ) (h k : Hand R W) (gave : Found) → HandSeeks o r rows bs b.workers.items c.workers.items h k gave → (reply : Reply) → reply ≡ found_reply gave → IsCaused o r w a d who reply
-  next_caused a b c d who before after rows bs h k gave found reply is = subst (IsCaused o r w a d who) (sym is) (caused_within a b c d who (found_reply gave) before after (hand_sought o r rows bs b.workers.items c.workers.items h k gave found))
+  pub next_caused : (a b c d : Core S R W w) (who : ℕ) (e : Event) → b.workers ≡ a.workers → d.workers ≡ c.workers → (rows : List NodeRow) (bs : ℕ) (h k : Hand R W) (gave : Found) → HandSeeks o r rows bs b.workers.items c.workers.items h k gave → (reply : Reply) → reply ≡ found_reply gave → IsCaused o r w a d who e reply
+  next_caused a b c d who e before after rows bs h k gave found reply is = subst (IsCaused o r w a d who e) (sym is) (caused_within a b c d who e (found_reply gave) before after (hand_sought o r rows bs b.workers.items c.workers.items h k gave found))
 
   -- ---- a hand that was taken out of its label and put back
 
@@ -136,35 +198,35 @@ module _ {S R W : Type 0} (o : objects.Ghosts S R W) (r : reads.Ghosts R) (w : w
     at_label P holds = at_set P (pred who) l t u old.hands.items new.hands.items (sets_hand (pred who) l k t u old.hands.items mid.hands.items new.hands.items same ended added) holds
 
   -- a poll, by what it gave
-  stream_polled : (old new : Core S R W w) (who : ℕ) (l : List ℕ) (block max : ℕ) (x y : Stream R) (gave : Gave) → PollOf r block max x y gave → ((P : Hand R W → Hand R W → Type 0) → P (Hand.Reading x) (Hand.Reading y) → AtLabel o r w old new who l P) → IsCaused o r w old new who (reply_of gave)
+  stream_polled : (old new : Core S R W w) (who : ℕ) (l : List ℕ) (block max : ℕ) (x y : Stream R) (gave : Gave) → PollOf r block max x y gave → ((P : Hand R W → Hand R W → Type 0) → P (Hand.Reading x) (Hand.Reading y) → AtLabel o r w old new who l P) → IsCaused o r w old new who (Event.Poll l max) (reply_of gave)
   stream_polled old new who l block max x y Gave.NotReady reads at =
       let found = there_is (λ b. (b.failed ≡ false) × SourcePolls r max b y.source Gave.NotReady) x.source reads.source in
       let then_ = there_is (Waited r found.0) y.source found.2.1 in
-      (found.0.worker, l, at (HandWaited o r w found.0.worker) (rose_both o r w r.waits x.source y.source found.0 then_.0 found.1 then_.1 then_.2.rose))
+      (found.0.worker, l, refl, at (HandWaited o r w found.0.worker) (rose_both o r w r.waits x.source y.source found.0 then_.0 found.1 then_.1 then_.2.unsteady then_.2.rose))
   stream_polled old new who l block max x y (Gave.Fault v) reads at =
       let found = there_is (λ b. (b.failed ≡ false) × SourcePolls r max b y.source (Gave.Fault v)) x.source reads.source in
       let then_ = there_is (Lost r found.0) y.source found.2.1.1 in
-      inr (l, at (HandRose o r w v) (subst (λ q. HandRose o r w q (Hand.Reading x) (Hand.Reading y)) (sym found.2.1.0) (rose_both o r w r.faults x.source y.source found.0 then_.0 found.1 then_.1 then_.2.rose)))
+      inr (l, refl, at (HandRose o r w v) (subst (λ q. HandRose o r w q (Hand.Reading x) (Hand.Reading y)) (sym found.2.1.0) (rose_both o r w r.faults x.source y.source found.0 then_.0 found.1 then_.1 then_.2.unsteady then_.2.rose)))
   stream_polled old new who l block max x y gave reads at = tt
 
-  hand_polled : (old new : Core S R W w) (who : ℕ) (l : List ℕ) (block max : ℕ) (t u : Hand R W) (gave : Gave) → HandPolls r block max t u gave → ((P : Hand R W → Hand R W → Type 0) → P t u → AtLabel o r w old new who l P) → IsCaused o r w old new who (reply_of gave)
+  hand_polled : (old new : Core S R W w) (who : ℕ) (l : List ℕ) (block max : ℕ) (t u : Hand R W) (gave : Gave) → HandPolls r block max t u gave → ((P : Hand R W → Hand R W → Type 0) → P t u → AtLabel o r w old new who l P) → IsCaused o r w old new who (Event.Poll l max) (reply_of gave)
   hand_polled old new who l block max (Hand.Reading x) (Hand.Reading y) gave h at = stream_polled old new who l block max x y gave h at
   hand_polled old new who l block max (Hand.Reading x) (Hand.Writing y) gave h at = absurd h
-  hand_polled old new who l block max (Hand.Writing x) u gave h at = subst (λ g. IsCaused o r w old new who (reply_of g)) (sym h.1) tt
+  hand_polled old new who l block max (Hand.Writing x) u gave h at = subst (λ g. IsCaused o r w old new who (Event.Poll l max) (reply_of g)) (sym h.1) tt
 
-  pub poll_caused : (old mid new : Core S R W w) (who : ℕ) (l k : List ℕ) (t u : Hand R W) → k ≡ l → ChangesAt old.hands.items mid.hands.items (pred who) (EndsHand l t) → ChangesAt mid.hands.items new.hands.items (pred who) (AddsHand k u) → (block max : ℕ) (gave : Gave) → HandPolls r block max t u gave → (reply : Reply) → reply ≡ reply_of gave → IsCaused o r w old new who reply
-  poll_caused old mid new who l k t u same ended added block max gave h reply is = subst (IsCaused o r w old new who) (sym is) (hand_polled old new who l block max t u gave h (at_label old mid new who l k t u same ended added))
+  pub poll_caused : (old mid new : Core S R W w) (who : ℕ) (l k : List ℕ) (t u : Hand R W) → k ≡ l → ChangesAt old.hands.items mid.hands.items (pred who) (EndsHand l t) → ChangesAt mid.hands.items new.hands.items (pred who) (AddsHand k u) → (block max : ℕ) (gave : Gave) → HandPolls r block max t u gave → (reply : Reply) → reply ≡ reply_of gave → IsCaused o r w old new who (Event.Poll l max) reply
+  poll_caused old mid new who l k t u same ended added block max gave h reply is = subst (IsCaused o r w old new who (Event.Poll l max)) (sym is) (hand_polled old new who l block max t u gave h (at_label old mid new who l k t u same ended added))
 
   -- a put, by how it ended
-  writer_put : (old new : Core S R W w) (who : ℕ) (l : List ℕ) (block : ℕ) (fill : Fill) (x y : Writer W) (end : PutEnd) → DidPut w block fill end x y → ((P : Hand R W → Hand R W → Type 0) → P (Hand.Writing x) (Hand.Writing y) → AtLabel o r w old new who l P) → IsCaused o r w old new who (put_reply end)
-  writer_put old new who l block fill x y (PutEnd.TierFault v) did at = inr (l, at (HandRose o r w v) (sym did.1, did.2.rose))
-  writer_put old new who l block fill x y (PutEnd.UnderFault s) did at = (l, at (UnderRose o r w s) did.1)
+  writer_put : (old new : Core S R W w) (who : ℕ) (l : List ℕ) (block : ℕ) (fill : Fill) (x y : Writer W) (end : PutEnd) → DidPut w block fill end x y → ((P : Hand R W → Hand R W → Type 0) → P (Hand.Writing x) (Hand.Writing y) → AtLabel o r w old new who l P) → IsCaused o r w old new who (Event.Put l fill) (put_reply end)
+  writer_put old new who l block fill x y (PutEnd.TierFault v) did at = inr (l, refl, at (HandRose o r w v) (sym did.1, did.2.unsteady, did.2.rose))
+  writer_put old new who l block fill x y (PutEnd.UnderFault s) did at = (l, refl, at (UnderRose o r w s) did.1)
   writer_put old new who l block fill x y end did at = tt
 
-  hand_put : (old new : Core S R W w) (who : ℕ) (l : List ℕ) (block : ℕ) (fill : Fill) (t u : Hand R W) (end : PutEnd) → DidIn w block fill end t u → ((P : Hand R W → Hand R W → Type 0) → P t u → AtLabel o r w old new who l P) → IsCaused o r w old new who (put_reply end)
-  hand_put old new who l block fill (Hand.Reading x) u end did at = subst (λ e. IsCaused o r w old new who (put_reply e)) (sym did.0) tt
+  hand_put : (old new : Core S R W w) (who : ℕ) (l : List ℕ) (block : ℕ) (fill : Fill) (t u : Hand R W) (end : PutEnd) → DidIn w block fill end t u → ((P : Hand R W → Hand R W → Type 0) → P t u → AtLabel o r w old new who l P) → IsCaused o r w old new who (Event.Put l fill) (put_reply end)
+  hand_put old new who l block fill (Hand.Reading x) u end did at = subst (λ g. IsCaused o r w old new who (Event.Put l fill) (put_reply g)) (sym did.0) tt
   hand_put old new who l block fill (Hand.Writing x) (Hand.Reading y) end did at = absurd did
   hand_put old new who l block fill (Hand.Writing x) (Hand.Writing y) end did at = writer_put old new who l block fill x y end did at
 
-  pub put_caused : (old mid new : Core S R W w) (who : ℕ) (l k : List ℕ) (t u : Hand R W) → k ≡ l → ChangesAt old.hands.items mid.hands.items (pred who) (EndsHand l t) → ChangesAt mid.hands.items new.hands.items (pred who) (AddsHand k u) → (block : ℕ) (fill : Fill) (end : PutEnd) → DidIn w block fill end t u → (reply : Reply) → reply ≡ put_reply end → IsCaused o r w old new who reply
-  put_caused old mid new who l k t u same ended added block fill end did reply is = subst (IsCaused o r w old new who) (sym is) (hand_put old new who l block fill t u end did (at_label old mid new who l k t u same ended added))
+  pub put_caused : (old mid new : Core S R W w) (who : ℕ) (l k : List ℕ) (t u : Hand R W) → k ≡ l → ChangesAt old.hands.items mid.hands.items (pred who) (EndsHand l t) → ChangesAt mid.hands.items new.hands.items (pred who) (AddsHand k u) → (block : ℕ) (fill : Fill) (end : PutEnd) → DidIn w block fill end t u → (reply : Reply) → reply ≡ put_reply end → IsCaused o r w old new who (Event.Put l fill) reply
+  put_caused old mid new who l k t u same ended added block fill end did reply is = subst (IsCaused o r w old new who (Event.Put l fill)) (sym is) (hand_put old new who l block fill t u end did (at_label old mid new who l k t u same ended added))

@@ -40,7 +40,7 @@ maps_twice f g [] = refl
 maps_twice f g (x ∷ xs) = ap (λ l. f (g x) ∷ l) (maps_twice f g xs)
 
 -- what all have, the one at a place has
-all_got : {X : Type 0} (P : X → Type 0) (xs : List X) (i : ℕ) (x : X) → All P xs → slice_get xs i ≡ Some x → P x
+pub all_got : {X : Type 0} (P : X → Type 0) (xs : List X) (i : ℕ) (x : X) → All P xs → slice_get xs i ≡ Some x → P x
 all_got P [] i x all is = absurd (cc)
 all_got P (y ∷ ys) zero x all is = subst (λ o. IsSomeAnd o P) is (All-head P y ys all)
 all_got P (y ∷ ys) (suc i) x all is = all_got P ys i x (All-tail P y ys all) is

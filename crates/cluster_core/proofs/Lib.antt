@@ -56,4 +56,5 @@ pub mod DoneGo
 pub mod DoneSteps
 pub mod DonePlace
 pub mod MediaStay
+pub mod SteadyStay
 pub mod Caused

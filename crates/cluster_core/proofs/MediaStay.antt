@@ -40,7 +40,7 @@ both_have P (Some a) None h s u was is = absurd h
 both_have P (Some a) (Some b) h s u was is = subst (λ p. P p u) (same_Some a s was) (subst (λ q. P a q) (same_Some b u is) h)
 
 -- where one element of a list changes, each has Q
-each_has : {X : Type 0} {P Q : X → X → Type 0} (old new : List X) (i : ℕ) → ChangesAt old new i P → ((s u : X) → P s u → Q s u) → ((s : X) → Q s s) → (j : ℕ) (s u : X) → slice_get old j ≡ Some s → slice_get new j ≡ Some u → Q s u
+pub each_has : {X : Type 0} {P Q : X → X → Type 0} (old new : List X) (i : ℕ) → ChangesAt old new i P → ((s u : X) → P s u → Q s u) → ((s : X) → Q s s) → (j : ℕ) (s u : X) → slice_get old j ≡ Some s → slice_get new j ≡ Some u → Q s u
 each_has {X} {P} {Q} old new i change gives stays j s u was is = elim (cases_eq j i) [
   | inl here ↦ gives s u (both_have P (slice_get old i) (slice_get new i) change.at s u (ap (slice_get old) (sym here) ∙ was) (ap (slice_get new) (sym here) ∙ is))
   | inr differs ↦ subst (λ q. Q s q) (same_Some s u (sym was ∙ sym (change.others j differs) ∙ is)) (stays s)
@@ -49,26 +49,35 @@ each_has {X} {P} {Q} old new i change gives stays j s u was is = elim (cases_eq 
 module _ {S R W : Type 0} (o : objects.Ghosts S R W) where
   -- ---- a worker
 
-  fault_less : (s : S) → o.faults s ≤ o.faults s
-  fault_less s = omega arith
+  -- no count fell, and it is steady as before
+  abbrev Stays : S → S → Type 0
+  Stays s u = (o.faults s ≤ o.faults u) × (o.steady u ≡ o.steady s)
+
+  itself : (s : S) → Stays s s
+  itself s = (omega arith, refl)
 
   -- the same tiers
   tiers_same : {n m : Node S} → m.tiers ≡ n.tiers → TiersStay o n m
   tiers_same {n} {m} same = record {
     same_length = ap (λ v. length v.items) same;
-    faults = λ t s u was is. subst (λ q. o.faults s ≤ o.faults q) (same_Some s u (sym was ∙ sym (ap (λ v. slice_get v.items t) same) ∙ is)) (fault_less s);
+    faults = λ t s u was is. (still t s u was is).0;
+    steady = λ t s u was is. (still t s u was is).1;
   }
+    where
+      still : (t : ℕ) (s u : S) → slice_get n.tiers.items t ≡ Some s → slice_get m.tiers.items t ≡ Some u → Stays s u
+      still t s u was is = subst (Stays s) (same_Some s u (sym was ∙ sym (ap (λ v. slice_get v.items t) same) ∙ is)) (itself s)
 
-  -- one tier changed, and its count didn't fall
-  tiers_at : {n m : Node S} {t : ℕ} {P : S → S → Type 0} → ChangesAt n.tiers.items m.tiers.items t P → ((s u : S) → P s u → o.faults s ≤ o.faults u) → TiersStay o n m
+  -- one tier changed, and its count didn't fall and it is steady as before
+  tiers_at : {n m : Node S} {t : ℕ} {P : S → S → Type 0} → ChangesAt n.tiers.items m.tiers.items t P → ((s u : S) → P s u → Stays s u) → TiersStay o n m
   tiers_at {n} {m} {t} change gives = record {
     same_length = change.same_length;
-    faults = each_has n.tiers.items m.tiers.items t change gives fault_less;
+    faults = λ j s u was is. (each_has n.tiers.items m.tiers.items t change gives itself j s u was is).0;
+    steady = λ j s u was is. (each_has n.tiers.items m.tiers.items t change gives itself j s u was is).1;
   }
 
   -- one tier told what it told
   tiers_keep : {n m : Node S} {t : ℕ} → ChangesAt n.tiers.items m.tiers.items t (Keeps o) → TiersStay o n m
-  tiers_keep change = tiers_at change (λ s u k. k.faults)
+  tiers_keep change = tiers_at change (λ s u k. (k.faults, k.steady))
 
   -- one change after another
   tiers_then : {n m k : Node S} → TiersStay o n m → TiersStay o m k → TiersStay o n k
@@ -79,6 +88,9 @@ module _ {S R W : Type 0} (o : objects.Ghosts S R W) where
         let first = a.faults t s (get_or m.tiers.items t s) was mid in
         let second = b.faults t (get_or m.tiers.items t s) u mid is in
         omega (arith, first, second);
+    steady = λ t s u was is.
+        let mid = still_there n.tiers.items m.tiers.items t s a.same_length was in
+        b.steady t (get_or m.tiers.items t s) u mid is ∙ a.steady t s (get_or m.tiers.items t s) was mid;
   }
 
   -- whatever came of a reservation

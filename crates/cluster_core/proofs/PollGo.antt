@@ -150,8 +150,8 @@ module _ {R : Type 0} (r : reads.Ghosts R) (K : Knowledge) (next bs : ℕ) (some
 -- ---- what rose
 
 -- a count of a source's reader rose
-pub rose_both : {S R W : Type 0} (o : objects.Ghosts S R W) (r : reads.Ghosts R) (w : writes.Ghosts W) (count : R → ℕ) (p q : Option (BlockSource R)) (b z : BlockSource R) → p ≡ Some b → q ≡ Some z → Rose (count b.stream.reader) (count z.stream.reader) → SourceRose o r w count b.worker p q
-rose_both o r w count p q b z is next more = subst (λ k. SourceRose o r w count b.worker k q) (sym is) (subst (λ k. SourceRose o r w count b.worker (Some b) k) (sym next) (refl, more))
+pub rose_both : {S R W : Type 0} (o : objects.Ghosts S R W) (r : reads.Ghosts R) (w : writes.Ghosts W) (count : R → ℕ) (p q : Option (BlockSource R)) (b z : BlockSource R) → p ≡ Some b → q ≡ Some z → r.steady b.stream.reader ≡ false → Rose (count b.stream.reader) (count z.stream.reader) → SourceRose o r w count b.worker p q
+rose_both o r w count p q b z is next unsteady more = subst (λ k. SourceRose o r w count b.worker k q) (sym is) (subst (λ k. SourceRose o r w count b.worker (Some b) k) (sym next) (refl, unsteady, more))
 
 -- ---- the event
 
@@ -301,7 +301,7 @@ module _ {S R W : Type 0} (o : objects.Ghosts S R W) (r : reads.Ghosts R) (w : w
           rise = wait_rise;
           made = None;
           stands = stays_set o r w old new l i within rest workers U V s (Hand.Reading x) (Hand.Reading y) (machine.Hand.Reading m) (machine.Hand.Reading m) at hands fits_on;
-          rises = Rises.OfWaits b.worker l (at_set (HandWaited o r w b.worker) i l (Hand.Reading x) (Hand.Reading y) old.hands.items new.hands.items hands (rose_both o r w r.waits x.source y.source b z is next_source.1 waited.rose));
+          rises = Rises.OfWaits b.worker l refl (at_set (HandWaited o r w b.worker) i l (Hand.Reading x) (Hand.Reading y) old.hands.items new.hands.items hands (rose_both o r w r.waits x.source y.source b z is next_source.1 waited.unsteady waited.rose));
           step = record {
             body = V.body;
             hands = set_hand l (machine.Hand.Reading m) H;
@@ -339,7 +339,7 @@ module _ {S R W : Type 0} (o : objects.Ghosts S R W) (r : reads.Ghosts R) (w : w
           rise = tier_rise v;
           made = None;
           stands = stays_set o r w old new l i within rest workers U V s (Hand.Reading x) (Hand.Reading y) (machine.Hand.Reading m) (machine.Hand.Reading with_no_source) at hands fits_on;
-          rises = Rises.OfHand v l (at_set (HandRose o r w v) i l (Hand.Reading x) (Hand.Reading y) old.hands.items new.hands.items hands (subst (λ k. HandRose o r w k (Hand.Reading x) (Hand.Reading y)) (sym mine) (rose_both o r w r.faults x.source y.source b z is next_source.1 lost.rose)));
+          rises = Rises.OfHand v l refl (at_set (HandRose o r w v) i l (Hand.Reading x) (Hand.Reading y) old.hands.items new.hands.items hands (subst (λ k. HandRose o r w k (Hand.Reading x) (Hand.Reading y)) (sym mine) (rose_both o r w r.faults x.source y.source b z is next_source.1 lost.unsteady lost.rose)));
           step = record {
             body = V.body;
             hands = set_hand l (machine.Hand.Reading with_no_source) H;

@@ -420,7 +420,7 @@ module _ {S R W : Type 0} (o : objects.Ghosts S R W) (r : reads.Ghosts R) (w : w
     hand_rose : (v : ℕ) → x.worker ≡ v → Broke w x y → AtLabel o r w old new (suc i) l (HandRose o r w v)
     hand_rose v here b = (changes_by old.hands.items new.hands.items i hands (λ a c g.
         subst (λ h. IsSomeAnd h (λ p. IsSomeAnd (hand_in c l) (λ q. HandRose o r w v p q))) (sym g.there)
-        (subst (λ h. IsSomeAnd h (λ q. HandRose o r w v (Hand.Writing x) q)) (sym (g.hands l ∙ ap (λ z. cond z (Some (let k : Hand R W = Hand.Writing y in k)) (hand_in a l)) (like_itself l))) (here, b.rose)))).at
+        (subst (λ h. IsSomeAnd h (λ q. HandRose o r w v (Hand.Writing x) q)) (sym (g.hands l ∙ ap (λ z. cond z (Some (let k : Hand R W = Hand.Writing y in k)) (hand_in a l)) (like_itself l))) (here, b.unsteady, b.rose)))).at
 
     put_failed : (v : ℕ) → x.broken ≡ false → v ≡ x.worker → Broke w x y → Leads (Reply.Refused (Refusal.TierFault v))
     put_failed v whole here b =
@@ -448,7 +448,7 @@ module _ {S R W : Type 0} (o : objects.Ghosts S R W) (r : reads.Ghosts R) (w : w
             files = s.files;
             objects = s.objects;
           });
-          rises = Rises.OfHand v l (hand_rose v (sym here) b);
+          rises = Rises.OfHand v l refl (hand_rose v (sym here) b);
           step = record {
             body = V.body;
             hands = G;

@@ -1,21 +1,23 @@
 -- Why an event answers a fault or a wait, whatever the core stands for.
 use Rattle.std.specs.Prelude.{ℕ, ◌<◌, ⊤, ◌⊎◌, List, pred}
+use Rattle.fs_model.specs.declared.event.Event.{Event}
 use Rattle.fs_model.specs.declared.reply.Reply.{Reply}
 use Rattle.fs_model.specs.declared.reply.Refusal.{Refusal}
 use Rattle.outside.specs.declared.objects.Objects as objects
 use Rattle.outside.specs.declared.objects.ObjectRead as reads
 use Rattle.outside.specs.declared.objects.ObjectWrite as writes
 use Rattle.cluster_core.specs.Tiers.{At, Counts}
-use Rattle.cluster_core.specs.Goes.{AtLabel, HandRose, HandWaited}
+use Rattle.cluster_core.specs.Goes.{AtLabel, HandRose, HandWaited, Uses}
 use Rattle.cluster_core.specs.Putting.{ObjectRose}
 use Rattle.cluster_core.specs.declared.node.Node.{Node}
 use Rattle.cluster_core.specs.declared.hand.Hand.{Hand}
 use Rattle.cluster_core.specs.declared.cluster.Core.{Core}
 
--- the reply is no fault of a store and no wait, and where it is the fault of a worker, P holds of that worker
+-- the reply is no fault of a store or of the journal and no wait, and where it is the fault of a worker, P holds of that worker
 abbrev pub OnlyTier : (ℕ → Type 0) → Reply → Type 0
 OnlyTier P (Reply.Refused (Refusal.TierFault v)) = P v
 OnlyTier P (Reply.Refused (Refusal.UnderFault s)) = ⊥
+OnlyTier P (Reply.Refused Refusal.JournalFault) = ⊥
 OnlyTier P Reply.NotReady = ⊥
 OnlyTier P reply = ⊤
 
@@ -34,9 +36,10 @@ module _ {S R W : Type 0} (o : objects.Ghosts S R W) (r : reads.Ghosts R) (w : w
   UnderRose s (Hand.Writing x) (Hand.Writing y) = ObjectRose w s x y
   UnderRose s h k = ⊥
 
-  -- a fault is answered only where a count rose in the event: of a tier of that worker, or of the reader or writer under a label of the actor; and a wait only where the waits of such a reader did
-  abbrev pub IsCaused : Core S R W w → Core S R W w → ℕ → Reply → Type 0
-  IsCaused old new who (Reply.Refused (Refusal.TierFault v)) = TierCounted o old new v ⊎ (l : List ℕ) × AtLabel o r w old new who l (HandRose o r w v)
-  IsCaused old new who (Reply.Refused (Refusal.UnderFault s)) = (l : List ℕ) × AtLabel o r w old new who l (UnderRose s)
-  IsCaused old new who Reply.NotReady = (v : ℕ) × (l : List ℕ) × AtLabel o r w old new who l (HandWaited o r w v)
-  IsCaused old new who reply = ⊤
+  -- a fault is answered only where a count rose in the event: of a tier of that worker, or of the reader or writer under the event's label, which isn't steady; a wait only where the waits of such a reader did; and no fault of the journal comes
+  abbrev pub IsCaused : Core S R W w → Core S R W w → ℕ → Event → Reply → Type 0
+  IsCaused old new who e (Reply.Refused (Refusal.TierFault v)) = TierCounted o old new v ⊎ (l : List ℕ) × Uses e l × AtLabel o r w old new who l (HandRose o r w v)
+  IsCaused old new who e (Reply.Refused (Refusal.UnderFault s)) = (l : List ℕ) × Uses e l × AtLabel o r w old new who l (UnderRose s)
+  IsCaused old new who e (Reply.Refused Refusal.JournalFault) = ⊥
+  IsCaused old new who e Reply.NotReady = (v : ℕ) × (l : List ℕ) × Uses e l × AtLabel o r w old new who l (HandWaited o r w v)
+  IsCaused old new who e reply = ⊤

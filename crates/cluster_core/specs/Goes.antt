@@ -1,5 +1,5 @@
 -- That an event of the core is a step of the file machine.
-use Rattle.std.specs.Prelude.{ℕ, zero, suc, pred, ◌≡◌, List, [], ◌∷◌, Option, IsSomeAnd}
+use Rattle.std.specs.Prelude.{ℕ, zero, suc, pred, ◌≡◌, false, List, [], ◌∷◌, Option, IsSomeAnd}
 use Rattle.fs_model.specs.declared.setup.Setup.{Setup}
 use Rattle.fs_model.specs.declared.event.Event.{Event}
 use Rattle.fs_model.specs.declared.reply.Reply.{Reply}
@@ -11,7 +11,7 @@ use Rattle.outside.specs.Causes.{Rose}
 use Rattle.outside.specs.declared.objects.Objects as objects
 use Rattle.outside.specs.declared.objects.ObjectRead as reads
 use Rattle.outside.specs.declared.objects.ObjectWrite as writes
-use Rattle.file_writer.specs.Parts.{block_faults}
+use Rattle.file_writer.specs.Parts.{block_faults, is_block_steady}
 use Rattle.cluster_core.specs.LabelsView.{hand_in}
 use Rattle.cluster_core.specs.Tiers.{At}
 use Rattle.cluster_core.specs.Stands.{Stands}
@@ -34,6 +34,12 @@ one_at (suc n) = 0 ∷ one_at n
 abbrev pub tier_rise : ℕ → Rise
 tier_rise w = record { stores = []; tiers = one_at (pred w); journal = 0; waits = 0 }
 
+-- the event polls the label, or puts bytes into it
+abbrev pub Uses : Event → List ℕ → Type 0
+Uses (Event.Poll m max) l = m ≡ l
+Uses (Event.Put m fill) l = m ≡ l
+Uses e l = ⊥
+
 -- the waits of a label's reader rose by 1
 abbrev pub wait_rise : Rise
 wait_rise = record { stores = []; tiers = []; journal = 0; waits = 1 }
@@ -43,14 +49,14 @@ module _ {S R W : Type 0} (o : objects.Ghosts S R W) (r : reads.Ghosts R) (w : w
   abbrev pub TierRose : Core S R W w → Core S R W w → ℕ → ℕ → Type 0
   TierRose old new v t = At old.workers.items new.workers.items (pred v) (λ n m. At n.tiers.items m.tiers.items t (λ s u. Rose (o.faults s) (o.faults u)))
 
-  -- the source was and is there, and its reader's count rose
+  -- the source was and is there, and the count of its reader, which isn't steady, rose
   abbrev pub SourceRose : (R → ℕ) → ℕ → Option (BlockSource R) → Option (BlockSource R) → Type 0
-  SourceRose count v s t = IsSomeAnd s (λ x. IsSomeAnd t (λ y. (x.worker ≡ v) × Rose (count x.stream.reader) (count y.stream.reader)))
+  SourceRose count v s t = IsSomeAnd s (λ x. IsSomeAnd t (λ y. (x.worker ≡ v) × (r.steady x.stream.reader ≡ false) × Rose (count x.stream.reader) (count y.stream.reader)))
 
-  -- the count of what a label has at the worker rose: of its reader, or of its open block's writer
+  -- the count of what a label has at the worker rose: of its reader, or of its open block's writer; that isn't steady
   abbrev pub HandRose : ℕ → Hand R W → Hand R W → Type 0
   HandRose v (Hand.Reading x) (Hand.Reading y) = SourceRose r.faults v x.source y.source
-  HandRose v (Hand.Writing x) (Hand.Writing y) = (x.worker ≡ v) × Rose (block_faults w x.bytes.block) (block_faults w y.bytes.block)
+  HandRose v (Hand.Writing x) (Hand.Writing y) = (x.worker ≡ v) × (is_block_steady w x.bytes.block ≡ false) × Rose (block_faults w x.bytes.block) (block_faults w y.bytes.block)
   HandRose v h k = ⊥
 
   -- the waits of the label's reader rose
@@ -62,12 +68,12 @@ module _ {S R W : Type 0} (o : objects.Ghosts S R W) (r : reads.Ghosts R) (w : w
   abbrev pub AtLabel : Core S R W w → Core S R W w → ℕ → List ℕ → (Hand R W → Hand R W → Type 0) → Type 0
   AtLabel old new who l P = At old.hands.items new.hands.items (pred who) (λ s t. IsSomeAnd (hand_in s l) (λ h. IsSomeAnd (hand_in t l) (λ k. P h k)))
 
-  -- what rose in an event: nothing, or by one the count of a tier, that of a label's reader or writer, or the waits of a label's reader
-  pub data Rises (old new : Core S R W w) (who : ℕ) : Rise → Type 0 where
-    Nothing : Rises old new who no_rise
-    OfTier : (v t : ℕ) → TierRose old new v t → Rises old new who (tier_rise v)
-    OfHand : (v : ℕ) (l : List ℕ) → AtLabel old new who l (HandRose v) → Rises old new who (tier_rise v)
-    OfWaits : (v : ℕ) (l : List ℕ) → AtLabel old new who l (HandWaited v) → Rises old new who wait_rise
+  -- what rose in an event: nothing, or by one the count of a tier, that of the reader or writer of the event's label, or the waits of that reader
+  pub data Rises (old new : Core S R W w) (who : ℕ) (e : Event) : Rise → Type 0 where
+    Nothing : Rises old new who e no_rise
+    OfTier : (v t : ℕ) → TierRose old new v t → Rises old new who e (tier_rise v)
+    OfHand : (v : ℕ) (l : List ℕ) → Uses e l → AtLabel old new who l (HandRose v) → Rises old new who e (tier_rise v)
+    OfWaits : (v : ℕ) (l : List ℕ) → Uses e l → AtLabel old new who l (HandWaited v) → Rises old new who e wait_rise
 
   -- there is a state for which the core stands afterwards, to which the machine goes by this step, and what rose in it are the counts that did
   pub record Goes (U : Setup) (old new : Core S R W w) (V : Whole) (who : ℕ) (e : Event) (reply : Reply) : Type 0 where
@@ -75,7 +81,7 @@ module _ {S R W : Type 0} (o : objects.Ghosts S R W) (r : reads.Ghosts R) (w : w
     pub rise : Rise
     pub made : Option Change
     pub stands : Stands o r w U new after
-    pub rises : Rises old new who rise
+    pub rises : Rises old new who e rise
     pub step : WholeStep U V (record { actor = who; event = e; reply = reply }) after (record { rise = rise; made = made })
 
   -- so it is from every state for which the core stands

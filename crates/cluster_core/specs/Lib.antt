@@ -4,6 +4,7 @@ pub mod Hands
 pub mod NamesView
 pub mod Media
 pub mod Causes
+pub mod Steady
 pub mod Names
 pub mod NamesStand
 pub mod Tests

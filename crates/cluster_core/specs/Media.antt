@@ -6,10 +6,11 @@ use Rattle.cluster_core.specs.declared.node.Node.{Node}
 use Rattle.cluster_core.specs.declared.cluster.Core.{Core}
 
 module _ {S R W : Type 0} (o : objects.Ghosts S R W) where
-  -- the worker has as many tiers as before, and no tier's count fell
+  -- the worker has as many tiers as before, no tier's count fell, and each is steady as before
   pub record TiersStay (old new : Node S) : Type 0 where
     pub same_length : length new.tiers.items ≡ length old.tiers.items
     pub faults : (t : ℕ) (s u : S) → slice_get old.tiers.items t ≡ Some s → slice_get new.tiers.items t ≡ Some u → o.faults s ≤ o.faults u
+    pub steady : (t : ℕ) (s u : S) → slice_get old.tiers.items t ≡ Some s → slice_get new.tiers.items t ≡ Some u → o.steady u ≡ o.steady s
 
   -- so it is with each worker
   pub record NodesStay (old new : List (Node S)) : Type 0 where

@@ -1,10 +1,10 @@
 -- A new block of a writer, in a reservation at its worker.
-use Rattle.std.specs.Prelude.{ℕ, ◌≡◌, [], slice_get, Option, None, IsSomeAnd, option_map}
+use Rattle.std.specs.Prelude.{ℕ, ◌≡◌, [], true, slice_get, Option, None, IsSomeAnd, option_map}
 use Rattle.outside.specs.Causes.{Rose}
 use Rattle.outside.specs.declared.objects.Objects as objects
 use Rattle.outside.specs.declared.objects.ObjectWrite as writes
 use Rattle.tier_book.specs.Rows.{fitting}
-use Rattle.file_writer.specs.Parts.{ObjectKeeps}
+use Rattle.file_writer.specs.Parts.{is_object_steady, ObjectKeeps}
 use Rattle.cluster_core.specs.Nodes.{HasSpace, IsAsBefore}
 use Rattle.cluster_core.specs.Tiers.{ChangesAt, Keeps}
 use Rattle.cluster_core.specs.declared.hand.Writer.{Writer}
@@ -31,11 +31,16 @@ module _ {S R W : Type 0} (o : objects.Ghosts S R W) where
   abbrev pub TellsAt : ℕ → Option W → (w : writes.Ghosts W) → Node S → Type 0
   TellsAt len pen w node = IsSomeAnd (fitting node.book len) (λ t. IsSomeAnd (slice_get node.tiers.items t) (λ s. IsSomeAnd pen (λ p. w.taken p ≡ option_map (λ _. []) (o.told s))))
 
+  -- where that tier is steady, the writer that was begun there is
+  abbrev pub WritesAt : ℕ → Option W → (w : writes.Ghosts W) → Node S → Type 0
+  WritesAt len pen w node = IsSomeAnd (fitting node.book len) (λ t. IsSomeAnd (slice_get node.tiers.items t) (λ s. IsSomeAnd pen (λ p. o.steady s ≡ true → w.steady p ≡ true)))
+
 -- the writer is as it was, but for room that its object may have got
 pub record SameBytes {W : Type 0} (w : writes.Ghosts W) (old new : Writer W) : Type 0 where
   pub fields : new ≡ record old { bytes = new.bytes }
   pub bytes : new.bytes ≡ record old.bytes { object = new.bytes.object }
   pub object : ObjectKeeps w old.bytes.object new.bytes.object
+  pub steady : is_object_steady w new.bytes.object ≡ is_object_steady w old.bytes.object
 
 -- the writer has an empty open block in a reservation, after what it took
 pub record OpensBlock {W : Type 0} (w : writes.Ghosts W) (old new : Writer W) : Type 0 where
@@ -43,3 +48,4 @@ pub record OpensBlock {W : Type 0} (w : writes.Ghosts W) (old new : Writer W) : 
   pub bytes : new.bytes ≡ record old.bytes { block = new.bytes.block; object = new.bytes.object }
   pub empty : IsSomeAnd new.bytes.block (λ b. b.len ≡ 0)
   pub object : ObjectKeeps w old.bytes.object new.bytes.object
+  pub steady : is_object_steady w new.bytes.object ≡ is_object_steady w old.bytes.object

@@ -42,6 +42,7 @@ module _ {R : Type 0} (r : reads.Ghosts R) where
     pub place : SamePlace x y
     pub due : r.to_give y.stream.reader + n ≡ r.to_give x.stream.reader
     pub left : r.left y.stream.reader ≡ option_map (drop n) (r.left x.stream.reader)
+    pub steady : r.steady y.stream.reader ≡ r.steady x.stream.reader
 
   -- a source gave these bytes, some and at most as many as there was room; it ends where it has given all
   pub record Gives (room : ℕ) (x : BlockSource R) (after : Option (BlockSource R)) (bytes : List ℕ) : Type 0 where
@@ -52,17 +53,19 @@ module _ {R : Type 0} (r : reads.Ghosts R) where
     pub ends : r.to_give x.stream.reader ≡ length bytes → after ≡ None
     pub goes : length bytes < r.to_give x.stream.reader → IsSomeAnd after (Moved (length bytes) x)
 
-  -- a source that wasn't ready
+  -- a source that wasn't ready; it isn't steady
   pub record Waited (x y : BlockSource R) : Type 0 where
     pub place : SamePlace x y
     pub due : r.to_give y.stream.reader ≡ r.to_give x.stream.reader
     pub left : r.left y.stream.reader ≡ r.left x.stream.reader
+    pub unsteady : r.steady x.stream.reader ≡ false
     pub rose : Rose (r.waits x.stream.reader) (r.waits y.stream.reader)
 
-  -- a source that failed
+  -- a source that failed; it isn't steady
   pub record Lost (x y : BlockSource R) : Type 0 where
     pub worker : y.worker ≡ x.worker
     pub failed : y.failed ≡ true
+    pub unsteady : r.steady x.stream.reader ≡ false
     pub rose : Rose (r.faults x.stream.reader) (r.faults y.stream.reader)
 
   -- a poll of a source, by what it gave

@@ -6,7 +6,7 @@ use Rattle.fs_model.specs.declared.reply.Refusal.{Refusal}
 use Rattle.fs_model.specs.BytesOutcomes.{fill_bytes, fill_len, lacks}
 use Rattle.outside.specs.Causes.{Rose}
 use Rattle.outside.specs.declared.objects.ObjectWrite as writes
-use Rattle.file_writer.specs.Parts.{block_faults, block_tells, object_faults, open_block}
+use Rattle.file_writer.specs.Parts.{block_faults, block_tells, is_block_steady, is_object_steady, object_faults, open_block}
 use Rattle.file_writer.specs.Taken.{HasTaken}
 use Rattle.file_writer.specs.Writing.{Writing, Stops, TakesPiece, wants_room}
 use Rattle.cluster_core.specs.declared.hand.Hand.{Hand}
@@ -52,18 +52,21 @@ module _ {W : Type 0} (w : writes.Ghosts W) where
     pub takes : TakesPiece w bytes old.bytes new.bytes
     pub taken : (all : List ℕ) → HasTaken w old.bytes all → HasTaken w new.bytes (all ++ bytes)
     pub tells : block_tells w new.bytes.block ≡ block_tells w old.bytes.block
+    pub block_steady : is_block_steady w new.bytes.block ≡ is_block_steady w old.bytes.block
+    pub object_steady : is_object_steady w new.bytes.object ≡ is_object_steady w old.bytes.object
 
-  -- the open block, which wasn't full, failed, and the writer is broken
+  -- the open block, which wasn't full, failed, and the writer is broken; the block's writer isn't steady
   pub record Broke (old new : Writer W) : Type 0 where
     pub same : SameWriter old new
     pub broken : new.broken ≡ true
     pub wanted : wants_room old.bytes ≡ false
     pub stops : Stops old.bytes new.bytes
+    pub unsteady : is_block_steady w old.bytes.block ≡ false
     pub rose : Rose (block_faults w old.bytes.block) (block_faults w new.bytes.block)
 
-  -- the writer has an object in this store, and the count of the object's writer rose
+  -- the writer has an object in this store, and the count of the object's writer, which isn't steady, rose
   abbrev pub ObjectRose : ℕ → Writer W → Writer W → Type 0
-  ObjectRose s old new = IsSomeAnd old.bytes.object (λ o. s ≡ o.store) × Rose (object_faults w old.bytes.object) (object_faults w new.bytes.object)
+  ObjectRose s old new = IsSomeAnd old.bytes.object (λ o. s ≡ o.store) × (is_object_steady w old.bytes.object ≡ false) × Rose (object_faults w old.bytes.object) (object_faults w new.bytes.object)
 
   -- a put of a piece ended so
   abbrev pub DidPiece : List ℕ → PutEnd → Writer W → Writer W → Type 0

@@ -48,6 +48,7 @@ module _ {S R W : Type 0} (o : objects.Ghosts S R W) (r : reads.Ghosts R) (f i a
     pub used : IsUsed n m c.number
     pub tiers : ChangesAt n.tiers.items m.tiers.items c.tier (Keeps o)
     pub range : IsSomeAnd (slice_get n.tiers.items c.tier) (λ s. IsRange (o.told s) (object_key n.started c.number) at len (r.left reader))
+    pub reads : IsSomeAnd (slice_get n.tiers.items c.tier) (λ s. o.steady s ≡ true → r.steady reader ≡ true)
 
   -- so it was with the copy of the block
   abbrev pub OpensRow : R → ℕ → Node S → Node S → Type 0

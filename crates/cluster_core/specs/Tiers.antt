@@ -21,21 +21,24 @@ pub record ChangesAt {S : Type 0} (old new : List S) (t : ℕ) (R : S → S → 
   pub at : At old new t R
   pub others : (j : ℕ) → (j ≡ t → ⊥) → slice_get new j ≡ slice_get old j
 
--- a store tells what it told and counts no change of an object, and its count of faults doesn't fall
+-- a store tells what it told and counts no change of an object, and its count of faults doesn't fall; it is steady as before
 pub record Keeps {S R W : Type 0} (o : objects.Ghosts S R W) (old new : S) : Type 0 where
   pub told : o.told new ≡ o.told old
   pub changes : o.changes new ≡ o.changes old
   pub faults : o.faults old ≤ o.faults new
+  pub steady : o.steady new ≡ o.steady old
 
 -- the object of the key has the writer's bytes, where the store and the writer tell
 pub record IsPut {S R W : Type 0} (o : objects.Ghosts S R W) (w : writes.Ghosts W) (writer : W) (key : KeyNames) (old new : S) : Type 0 where
   pub bytes : (bytes : List ℕ) → w.taken writer ≡ option_map (λ _. bytes) (o.told old) → IsSame (option_map (put_at key (Some bytes)) (o.told old)) (o.told new)
   pub faults : o.faults old ≤ o.faults new
+  pub steady : o.steady new ≡ o.steady old
 
 -- so it is, or the store tells what it told
 pub record IsPutOrNot {S R W : Type 0} (o : objects.Ghosts S R W) (w : writes.Ghosts W) (writer : W) (key : KeyNames) (old new : S) : Type 0 where
   pub bytes : (bytes : List ℕ) → w.taken writer ≡ option_map (λ _. bytes) (o.told old) → IsSame (option_map (put_at key (Some bytes)) (o.told old)) (o.told new) ⊎ IsSame (o.told old) (o.told new)
   pub faults : o.faults old ≤ o.faults new
+  pub steady : o.steady new ≡ o.steady old
 
 -- the store counted a failure or a miss
 abbrev pub Counts : {S R W : Type 0} → objects.Ghosts S R W → S → S → Type 0

@@ -10,6 +10,7 @@ ghost use Rattle.cluster_core.specs.Begun.{FitBooks, HasNone, MediaFit, Moved, T
 ghost use Rattle.cluster_core.specs.Names.{first_names};
 ghost use Rattle.cluster_core.specs.Nodes.{node_row};
 ghost use Rattle.cluster_core.specs.Stands.{Stands};
+ghost use Rattle.cluster_core.specs.Steady.{IsSteady, MediaSteady};
 
 #[cfg(test)]
 mod tests;
@@ -262,6 +263,9 @@ impl<O: Objects> Core<O, O::Reader, O::Writer> {
 
         // Over tiers that tell and hold no object, it stands for each state that a play begins with.
         ensures stands { IfOk result (λ core. (V : Whole) → Begins setup.now V → TiersEmpty O.Objects media → Stands O.Objects O.Reader.ObjectRead O.Writer.ObjectWrite setup.now core V) }
+
+        // Over steady tiers all is steady.
+        ensures steady { IfOk result (λ core. MediaSteady O.Objects media → IsSteady O.Objects O.Reader.ObjectRead O.Writer.ObjectWrite core) }
 
         ensures block { IfOk result (λ core. core.block ≡ setup.now.block) }
         ensures area { IfOk result (λ core. core.area ≡ setup.now.area) }

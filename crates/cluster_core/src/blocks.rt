@@ -1,6 +1,6 @@
 //! What a worker does with blocks: room for one, its object, and reading it.
 
-ghost use Rattle.std.specs.Prelude.{◌≡◌, ◌≤◌, ◌<◌, ◌+◌, ◌^◌, ◌⊎◌, ◌++◌, ◌∷◌, [], Ok, Err, None, Some, length, option_map, slice_get, IfOk, IfErr, IfSome, IfNone, IsOk, IsSome, IsSomeAnd, OnOk, OnErr, vec_len, vec_capacity};
+ghost use Rattle.std.specs.Prelude.{◌≡◌, ◌≤◌, ◌<◌, ◌+◌, ◌^◌, ◌⊎◌, ◌++◌, ◌∷◌, [], true, Ok, Err, None, Some, length, option_map, slice_get, IfOk, IfErr, IfSome, IfNone, IsOk, IsSome, IsSomeAnd, OnOk, OnErr, vec_len, vec_capacity};
 ghost use Rattle.fs_model.specs.Lookups.{no_worker};
 ghost use Rattle.outside.specs.Causes.{Rose};
 ghost use Rattle.outside.specs.Contents.{IsRange};
@@ -63,6 +63,7 @@ impl<O: Objects> Node<O> {
         ensures written { IfOk result (λ space. O.Writer.written space.writer ≡ 0) }
         ensures spare { IfOk result (λ space. len ≤ O.Writer.spare space.writer) }
         ensures empty { IfOk result (λ space. IsSomeAnd (slice_get self.old.tiers.items tier) (λ s. O.Writer.taken space.writer ≡ option_map (λ _. []) (O.told s))) }
+        ensures writes { IfOk result (λ space. IsSomeAnd (slice_get self.old.tiers.items tier) (λ s. O.steady s ≡ true → O.Writer.steady space.writer ≡ true)) }
         ensures err { OnErr result (IsAsBefore self.old self.new) }
         ensures tiers { ChangesAt self.old.tiers.items self.new.tiers.items tier (Keeps O.Objects) }
         ensures misses { ChangesAt self.old.tiers.items self.new.tiers.items tier (λ old new. O.misses new ≡ O.misses old) }
@@ -86,6 +87,7 @@ impl<O: Objects> Node<O> {
         ensures space { IfOk result (λ found. IfSome found (λ space. IsSomeAnd (fitting self.old.book len) (HasSpace self.old self.new len space.room))) }
         ensures writer { IfOk result (λ found. IfSome found (λ space. (O.Writer.written space.writer ≡ 0) × (len ≤ O.Writer.spare space.writer))) }
         ensures empty { IfOk result (λ found. IfSome found (λ space. IsSomeAnd (fitting self.old.book len) (λ t. IsSomeAnd (slice_get self.old.tiers.items t) (λ s. O.Writer.taken space.writer ≡ option_map (λ _. []) (O.told s))))) }
+        ensures writes { IfOk result (λ found. IfSome found (λ space. IsSomeAnd (fitting self.old.book len) (λ t. IsSomeAnd (slice_get self.old.tiers.items t) (λ s. O.steady s ≡ true → O.Writer.steady space.writer ≡ true)))) }
         ensures err { OnErr result (IsAsBefore self.old self.new) }
         ensures tiers { IfSome (fitting self.old.book len) (λ t. ChangesAt self.old.tiers.items self.new.tiers.items t (Keeps O.Objects)) }
         ensures misses { IfSome (fitting self.old.book len) (λ t. ChangesAt self.old.tiers.items self.new.tiers.items t (λ old new. O.misses new ≡ O.misses old)) }
@@ -205,6 +207,7 @@ impl<O: Objects> Node<O> {
         ensures row { OnOk result (IsUsed self.old self.new row.number) }
         ensures due { IfOk result (λ reader. O.Reader.to_give reader ≡ len) }
         ensures range { IfOk result (λ reader. IsSomeAnd (slice_get self.old.tiers.items row.tier) (λ s. IsRange (O.told s) (object_key self.old.started row.number) at len (O.Reader.left reader))) }
+        ensures reads { IfOk result (λ reader. IsSomeAnd (slice_get self.old.tiers.items row.tier) (λ s. O.steady s ≡ true → O.Reader.steady reader ≡ true)) }
         ensures err { OnErr result (IsAsBefore self.old self.new) }
         ensures tiers { ChangesAt self.old.tiers.items self.new.tiers.items row.tier (Keeps O.Objects) }
         ensures failed { result ≡ Err Fail.Failed → ChangesAt self.old.tiers.items self.new.tiers.items row.tier (IsFaultOrShort O.Objects (object_key self.old.started row.number) (at + len)) }
@@ -235,6 +238,7 @@ impl<O: Objects> Node<O> {
         ensures row { IfOk result (λ found. IfSome found (λ opened. IsSomeAnd (row_of file block self.old.book.rows) (λ c. (opened.tier ≡ c.tier) × IsUsed self.old self.new c.number))) }
         ensures due { IfOk result (λ found. IfSome found (λ opened. O.Reader.to_give opened.reader ≡ len)) }
         ensures range { IfOk result (λ found. IfSome found (λ opened. IsSomeAnd (row_of file block self.old.book.rows) (λ c. IsSomeAnd (slice_get self.old.tiers.items c.tier) (λ s. IsRange (O.told s) (object_key self.old.started c.number) at len (O.Reader.left opened.reader))))) }
+        ensures reads { IfOk result (λ found. IfSome found (λ opened. IsSomeAnd (row_of file block self.old.book.rows) (λ c. IsSomeAnd (slice_get self.old.tiers.items c.tier) (λ s. O.steady s ≡ true → O.Reader.steady opened.reader ≡ true)))) }
         ensures err { OnErr result (IsAsBefore self.old self.new) }
         ensures tiers { IfSome (row_of file block self.old.book.rows) (λ c. ChangesAt self.old.tiers.items self.new.tiers.items c.tier (Keeps O.Objects)) }
         ensures failed { result ≡ Err Fail.Failed → IsSomeAnd (row_of file block self.old.book.rows) (λ c. ChangesAt self.old.tiers.items self.new.tiers.items c.tier (IsFaultOrShort O.Objects (object_key self.old.started c.number) (at + len))) }

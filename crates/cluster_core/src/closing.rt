@@ -9,6 +9,7 @@ ghost use Rattle.cluster_core.specs.Reserved.{room_in};
 ghost use Rattle.cluster_core.specs.Here.{runs_here};
 ghost use Rattle.cluster_core.specs.Kept.{KeepsRest};
 ghost use Rattle.cluster_core.specs.Media.{MediaStays};
+ghost use Rattle.cluster_core.specs.Steady.{IsSteady};
 ghost use Rattle.cluster_core.specs.Nodes.{FreesRoom};
 ghost use Rattle.cluster_core.specs.Tiers.{ChangesAt};
 
@@ -52,7 +53,8 @@ impl<O: Objects> Core<O, O::Reader, O::Writer> {
         requires { is_actor actor ≡ true }
         ensures steps { Steps O.Objects O.Reader.ObjectRead O.Writer.ObjectWrite self.old self.new actor (Event.Close label.now) result }
         ensures media { MediaStays O.Objects self.old self.new }
-        ensures cause { IsCaused O.Objects O.Reader.ObjectRead O.Writer.ObjectWrite self.old self.new actor result }
+        ensures cause { IsCaused O.Objects O.Reader.ObjectRead O.Writer.ObjectWrite self.old self.new actor (Event.Close label.now) result }
+        ensures steady { IsSteady O.Objects O.Reader.ObjectRead O.Writer.ObjectWrite self.old → IsSteady O.Objects O.Reader.ObjectRead O.Writer.ObjectWrite self.new }
     {
         match self.take_hand(actor, label) {
             None => Reply::Refused(Refusal::BadLabel),

@@ -12,6 +12,7 @@ ghost use Rattle.cluster_core.specs.Goes.{Steps};
 ghost use Rattle.cluster_core.specs.HandChanges.{AddsHand, KeepsHands};
 ghost use Rattle.cluster_core.specs.Here.{started_here};
 ghost use Rattle.cluster_core.specs.Media.{MediaStays};
+ghost use Rattle.cluster_core.specs.Steady.{IsSteady};
 ghost use Rattle.cluster_core.specs.Names.{with_file};
 ghost use Rattle.cluster_core.specs.Tests.{create_test};
 ghost use Rattle.cluster_core.specs.Tiers.{ChangesAt};
@@ -141,7 +142,8 @@ impl<O: Objects> Core<O, O::Reader, O::Writer> {
         requires some { 0 < worker }
         ensures steps { Steps O.Objects O.Reader.ObjectRead O.Writer.ObjectWrite self.old self.new actor (Event.Create label.now path.now WriteType.MustCache worker) result }
         ensures media { MediaStays O.Objects self.old self.new }
-        ensures cause { IsCaused O.Objects O.Reader.ObjectRead O.Writer.ObjectWrite self.old self.new actor result }
+        ensures cause { IsCaused O.Objects O.Reader.ObjectRead O.Writer.ObjectWrite self.old self.new actor (Event.Create label.now path.now WriteType.MustCache worker) result }
+        ensures steady { IsSteady O.Objects O.Reader.ObjectRead O.Writer.ObjectWrite self.old → IsSteady O.Objects O.Reader.ObjectRead O.Writer.ObjectWrite self.new }
     {
         if let Some(refusal) = self.create_refusal(actor, label, path, worker) {
             return Reply::Refused(refusal);

@@ -8,8 +8,10 @@ ghost use Rattle.fs_model.specs.Spelled.{is_actor};
 ghost use Rattle.fs_model.specs.Lookups.{find_node};
 ghost use Rattle.inode_tree.specs.Rows.{node_of, file_row};
 ghost use Rattle.cluster_core.specs.Causes.{IsCaused, OnlyTier, TierCounted};
+ghost use Rattle.cluster_core.specs.declared.hand.Hand.{Hand};
 ghost use Rattle.cluster_core.specs.Goes.{Steps};
 ghost use Rattle.cluster_core.specs.Media.{MediaStays};
+ghost use Rattle.cluster_core.specs.Steady.{IsHandSteady, IsSteady};
 ghost use Rattle.cluster_core.specs.Names.{with_done};
 ghost use Rattle.cluster_core.specs.Writers.{MayPut, StepsFrom, done_test};
 
@@ -76,6 +78,7 @@ impl<O: Objects> Core<O, O::Reader, O::Writer> {
         ensures steps { StepsFrom O.Objects O.Reader.ObjectRead O.Writer.ObjectWrite self.old self.new actor label writer (Event.Finish label) result }
         ensures media { MediaStays O.Objects self.old self.new }
         ensures cause { OnlyTier (TierCounted O.Objects self.old self.new) result }
+        ensures steady { IsSteady O.Objects O.Reader.ObjectRead O.Writer.ObjectWrite self.old → IsHandSteady O.Reader.ObjectRead O.Writer.ObjectWrite (Hand.Writing writer) → IsSteady O.Objects O.Reader.ObjectRead O.Writer.ObjectWrite self.new }
     {
         if let Some(refusal) = self.done_refusal(&writer) {
             return self.put_writer(actor, label, writer, Reply::Refused(refusal));
@@ -110,6 +113,7 @@ impl<O: Objects> Core<O, O::Reader, O::Writer> {
         ensures steps { StepsFrom O.Objects O.Reader.ObjectRead O.Writer.ObjectWrite self.old self.new actor label writer (Event.Finish label) result }
         ensures media { MediaStays O.Objects self.old self.new }
         ensures cause { OnlyTier (TierCounted O.Objects self.old self.new) result }
+        ensures steady { IsSteady O.Objects O.Reader.ObjectRead O.Writer.ObjectWrite self.old → IsHandSteady O.Reader.ObjectRead O.Writer.ObjectWrite (Hand.Writing writer) → IsSteady O.Objects O.Reader.ObjectRead O.Writer.ObjectWrite self.new }
     {
         match self.names.place_of(alloc, writer.file) {
             Err(_) => self.put_writer(actor, label, writer, Reply::Refused(Refusal::Memory)),
@@ -123,7 +127,8 @@ impl<O: Objects> Core<O, O::Reader, O::Writer> {
         requires { is_actor actor ≡ true }
         ensures steps { Steps O.Objects O.Reader.ObjectRead O.Writer.ObjectWrite self.old self.new actor (Event.Finish label.now) result }
         ensures media { MediaStays O.Objects self.old self.new }
-        ensures cause { IsCaused O.Objects O.Reader.ObjectRead O.Writer.ObjectWrite self.old self.new actor result }
+        ensures cause { IsCaused O.Objects O.Reader.ObjectRead O.Writer.ObjectWrite self.old self.new actor (Event.Finish label.now) result }
+        ensures steady { IsSteady O.Objects O.Reader.ObjectRead O.Writer.ObjectWrite self.old → IsSteady O.Objects O.Reader.ObjectRead O.Writer.ObjectWrite self.new }
     {
         match self.take_writer(actor, label) {
             None => Reply::Refused(Refusal::BadLabel),

@@ -7,6 +7,7 @@ ghost use Rattle.cluster_core.specs.Causes.{IsCaused};
 ghost use Rattle.cluster_core.specs.Tests.{mkdir_test};
 ghost use Rattle.cluster_core.specs.Goes.{Steps};
 ghost use Rattle.cluster_core.specs.Media.{MediaStays};
+ghost use Rattle.cluster_core.specs.Steady.{IsSteady};
 
 use crate::cluster::Core;
 use crate::names::{MKDIR_ENTRY, walk_refusal};
@@ -43,7 +44,8 @@ impl<O: Objects> Core<O, O::Reader, O::Writer> {
     pub(crate) fn mkdir(&mut self, alloc: Global, actor: Actor, path: &Path) -> Reply
         ensures steps { Steps O.Objects O.Reader.ObjectRead O.Writer.ObjectWrite self.old self.new actor (Event.Mkdir path.now) result }
         ensures media { MediaStays O.Objects self.old self.new }
-        ensures cause { IsCaused O.Objects O.Reader.ObjectRead O.Writer.ObjectWrite self.old self.new actor result }
+        ensures cause { IsCaused O.Objects O.Reader.ObjectRead O.Writer.ObjectWrite self.old self.new actor (Event.Mkdir path.now) result }
+        ensures steady { IsSteady O.Objects O.Reader.ObjectRead O.Writer.ObjectWrite self.old → IsSteady O.Objects O.Reader.ObjectRead O.Writer.ObjectWrite self.new }
     {
         if let Some(refusal) = self.mkdir_refusal(path) {
             return Reply::Refused(refusal);
@@ -57,7 +59,7 @@ impl<O: Objects> Core<O, O::Reader, O::Writer> {
     /// `ls`: the names in a directory.
     pub(crate) fn list(&self, alloc: Global, actor: Actor, path: &Path) -> Reply
         ensures steps { Steps O.Objects O.Reader.ObjectRead O.Writer.ObjectWrite self.now self.now actor (Event.List path.now) result }
-        ensures cause { IsCaused O.Objects O.Reader.ObjectRead O.Writer.ObjectWrite self.now self.now actor result }
+        ensures cause { IsCaused O.Objects O.Reader.ObjectRead O.Writer.ObjectWrite self.now self.now actor (Event.List path.now) result }
     {
         match self.names.walk(path) {
             Walk::Absent => Reply::Refused(Refusal::NotFound),

@@ -13,6 +13,7 @@ ghost use Rattle.cluster_core.specs.HandChanges.{KeepsHands};
 ghost use Rattle.cluster_core.specs.Kept.{KeepsRest};
 ghost use Rattle.cluster_core.specs.LabelsView.{HasRoom};
 ghost use Rattle.cluster_core.specs.Media.{MediaStays};
+ghost use Rattle.cluster_core.specs.Steady.{IsSteady};
 ghost use Rattle.cluster_core.specs.Openings.{has_here, here};
 ghost use Rattle.cluster_core.specs.Tests.{done_test, file_there, open_test};
 ghost use Rattle.cluster_core.specs.Tiers.{ChangesAt};
@@ -118,7 +119,8 @@ impl<O: Objects> Core<O, O::Reader, O::Writer> {
         requires { is_actor actor ≡ true }
         ensures steps { Steps O.Objects O.Reader.ObjectRead O.Writer.ObjectWrite self.old self.new actor (Event.OpenFile label.now path.now ReadType.NoCache worker) result }
         ensures media { MediaStays O.Objects self.old self.new }
-        ensures cause { IsCaused O.Objects O.Reader.ObjectRead O.Writer.ObjectWrite self.old self.new actor result }
+        ensures cause { IsCaused O.Objects O.Reader.ObjectRead O.Writer.ObjectWrite self.old self.new actor (Event.OpenFile label.now path.now ReadType.NoCache worker) result }
+        ensures steady { IsSteady O.Objects O.Reader.ObjectRead O.Writer.ObjectWrite self.old → IsSteady O.Objects O.Reader.ObjectRead O.Writer.ObjectWrite self.new }
     {
         match self.row_to_open(actor, label, path, worker) {
             Err(refusal) => Reply::Refused(refusal),

@@ -10,6 +10,7 @@ ghost use Rattle.file_writer.specs.Writing.{wants_room};
 ghost use Rattle.cluster_core.specs.Causes.{IsCaused};
 ghost use Rattle.cluster_core.specs.Goes.{Steps};
 ghost use Rattle.cluster_core.specs.Media.{MediaStays};
+ghost use Rattle.cluster_core.specs.Steady.{IsSteady};
 ghost use Rattle.cluster_core.specs.Putting.{DidIn, DidPiece, DidPut, missing, put_reply};
 
 use crate::cluster::Core;
@@ -163,7 +164,8 @@ impl<O: Objects> Core<O, O::Reader, O::Writer> {
         requires fill { is_fill fill.now ≡ true }
         ensures steps { Steps O.Objects O.Reader.ObjectRead O.Writer.ObjectWrite self.old self.new actor (Event.Put label.now fill.now) result }
         ensures media { MediaStays O.Objects self.old self.new }
-        ensures cause { IsCaused O.Objects O.Reader.ObjectRead O.Writer.ObjectWrite self.old self.new actor result }
+        ensures cause { IsCaused O.Objects O.Reader.ObjectRead O.Writer.ObjectWrite self.old self.new actor (Event.Put label.now fill.now) result }
+        ensures steady { IsSteady O.Objects O.Reader.ObjectRead O.Writer.ObjectWrite self.old → IsSteady O.Objects O.Reader.ObjectRead O.Writer.ObjectWrite self.new }
     {
         match self.take_hand(actor, label) {
             None => Reply::Refused(Refusal::BadLabel),

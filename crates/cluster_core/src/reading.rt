@@ -10,6 +10,7 @@ ghost use Rattle.cluster_core.specs.Goes.{Steps};
 ghost use Rattle.cluster_core.specs.HandFits.{source_of};
 ghost use Rattle.cluster_core.specs.Kept.{KeepsRest};
 ghost use Rattle.cluster_core.specs.Media.{MediaStays};
+ghost use Rattle.cluster_core.specs.Steady.{IsSteady};
 ghost use Rattle.cluster_core.specs.Polls.{block_number};
 ghost use Rattle.cluster_core.specs.Seeks.{FailsRow, HandSeeks, OpensRow, SeeksOf, TriesRow, first_copy, found_reply, left_of, place_in, wanted};
 ghost use Rattle.cluster_core.specs.Sources.{MaySource};
@@ -182,7 +183,8 @@ impl<O: Objects> Core<O, O::Reader, O::Writer> {
         requires { is_actor actor ≡ true }
         ensures steps { Steps O.Objects O.Reader.ObjectRead O.Writer.ObjectWrite self.old self.new actor (Event.Next label.now) result }
         ensures media { MediaStays O.Objects self.old self.new }
-        ensures cause { IsCaused O.Objects O.Reader.ObjectRead O.Writer.ObjectWrite self.old self.new actor result }
+        ensures cause { IsCaused O.Objects O.Reader.ObjectRead O.Writer.ObjectWrite self.old self.new actor (Event.Next label.now) result }
+        ensures steady { IsSteady O.Objects O.Reader.ObjectRead O.Writer.ObjectWrite self.old → IsSteady O.Objects O.Reader.ObjectRead O.Writer.ObjectWrite self.new }
     {
         match self.take_hand(actor, label) {
             None => Reply::Refused(Refusal::BadLabel),

@@ -75,7 +75,7 @@ impl<O: Objects> Core<O, O::Reader, O::Writer> {
     /// `stat`: what is at the path.
     pub(crate) fn stat(&self, actor: Actor, path: &Path) -> Reply
         ensures steps { Steps O.Objects O.Reader.ObjectRead O.Writer.ObjectWrite self.now self.now actor (Event.Stat path.now) result }
-        ensures cause { IsCaused O.Objects O.Reader.ObjectRead O.Writer.ObjectWrite self.now self.now actor result }
+        ensures cause { IsCaused O.Objects O.Reader.ObjectRead O.Writer.ObjectWrite self.now self.now actor (Event.Stat path.now) result }
     {
         match self.names.walk(path) {
             Walk::Absent => Reply::Refused(Refusal::NotFound),

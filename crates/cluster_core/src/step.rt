@@ -6,6 +6,7 @@ ghost use Rattle.fs_model.specs.Spelled.{is_actor, is_spelled};
 ghost use Rattle.cluster_core.specs.Causes.{IsCaused};
 ghost use Rattle.cluster_core.specs.Goes.{Steps};
 ghost use Rattle.cluster_core.specs.Media.{MediaStays};
+ghost use Rattle.cluster_core.specs.Steady.{IsSteady};
 
 use crate::cluster::Core;
 use fs_model::event::{Event, ReadType, WriteType};
@@ -22,7 +23,8 @@ impl<O: Objects> Core<O, O::Reader, O::Writer> {
         requires spelled { is_spelled event.now ≡ true }
         ensures steps { Steps O.Objects O.Reader.ObjectRead O.Writer.ObjectWrite self.old self.new actor event.now result }
         ensures media { MediaStays O.Objects self.old self.new }
-        ensures cause { IsCaused O.Objects O.Reader.ObjectRead O.Writer.ObjectWrite self.old self.new actor result }
+        ensures cause { IsCaused O.Objects O.Reader.ObjectRead O.Writer.ObjectWrite self.old self.new actor event.now result }
+        ensures steady { IsSteady O.Objects O.Reader.ObjectRead O.Writer.ObjectWrite self.old → IsSteady O.Objects O.Reader.ObjectRead O.Writer.ObjectWrite self.new }
     {
         match event {
             Event::Mkdir { path } => self.mkdir(alloc, actor, path),

@@ -7,7 +7,7 @@ ghost use Rattle.file_writer.specs.Pens.{HasSpare, Tells};
 ghost use Rattle.file_writer.specs.Taken.{HasTaken};
 ghost use Rattle.file_writer.specs.Writing.{block_writer, wants_room};
 ghost use Rattle.cluster_core.specs.Kept.{KeepsRest};
-ghost use Rattle.cluster_core.specs.Opened.{FailsNode, IsFull, KeepsNode, OpensBlock, SameBytes, Spaces, TellsAt};
+ghost use Rattle.cluster_core.specs.Opened.{FailsNode, IsFull, KeepsNode, OpensBlock, SameBytes, Spaces, TellsAt, WritesAt};
 ghost use Rattle.cluster_core.specs.Tiers.{ChangesAt};
 
 use crate::cluster::Core;
@@ -24,6 +24,7 @@ fn make_at<O: Objects>(node: &mut Node<O>, len: u64) -> Result<Option<Space<O::W
     ensures space { IfOk result (λ found. IfSome found (λ space. Spaces O.Objects space.room len node.old node.new)) }
     ensures empty { IfOk result (λ found. IfSome found (λ space. (O.Writer.written space.writer ≡ 0) × (len ≤ O.Writer.spare space.writer))) }
     ensures tells { IfOk result (λ found. IfSome found (λ space. TellsAt O.Objects len (Some space.writer) O.Writer.ObjectWrite node.old)) }
+    ensures writes { IfOk result (λ found. IfSome found (λ space. WritesAt O.Objects len (Some space.writer) O.Writer.ObjectWrite node.old)) }
     ensures failed { result ≡ Err Fail.Failed → FailsNode O.Objects len node.old node.new }
     ensures memory { result ≡ Err Fail.Memory → KeepsNode O.Objects len node.old node.new }
 {
@@ -54,6 +55,7 @@ impl<O: Objects> Core<O, O::Reader, O::Writer> {
         ensures space { IfOk result (λ found. IfSome found (λ space. ChangesAt self.old.workers.items self.new.workers.items (pred worker) (Spaces O.Objects space.room len))) }
         ensures empty { IfOk result (λ found. IfSome found (λ space. (O.Writer.written space.writer ≡ 0) × (len ≤ O.Writer.spare space.writer))) }
         ensures tells { IfOk result (λ found. IfSome found (λ space. IsSomeAnd (slice_get self.old.workers.items (pred worker)) (TellsAt O.Objects len (Some space.writer) O.Writer.ObjectWrite))) }
+        ensures writes { IfOk result (λ found. IfSome found (λ space. IsSomeAnd (slice_get self.old.workers.items (pred worker)) (WritesAt O.Objects len (Some space.writer) O.Writer.ObjectWrite))) }
         ensures failed { result ≡ Err Fail.Failed → ChangesAt self.old.workers.items self.new.workers.items (pred worker) (FailsNode O.Objects len) }
         ensures memory { result ≡ Err Fail.Memory → ChangesAt self.old.workers.items self.new.workers.items (pred worker) (KeepsNode O.Objects len) }
     {
@@ -75,6 +77,7 @@ impl<O: Objects> Core<O, O::Reader, O::Writer> {
         ensures opened { result ≡ Ok true → OpensBlock O.Writer.ObjectWrite writer.old writer.new }
         ensures space { result ≡ Ok true → IsSomeAnd writer.new.room (λ n. ChangesAt self.old.workers.items self.new.workers.items (pred writer.old.worker) (Spaces O.Objects n writer.old.bytes.bs)) }
         ensures tells { result ≡ Ok true → IsSomeAnd (slice_get self.old.workers.items (pred writer.old.worker)) (TellsAt O.Objects writer.old.bytes.bs (block_writer writer.new.bytes) O.Writer.ObjectWrite) }
+        ensures writes { result ≡ Ok true → IsSomeAnd (slice_get self.old.workers.items (pred writer.old.worker)) (WritesAt O.Objects writer.old.bytes.bs (block_writer writer.new.bytes) O.Writer.ObjectWrite) }
         ensures has { result ≡ Ok true → (bytes : List ℕ) → HasTaken O.Writer.ObjectWrite writer.old.bytes bytes → HasTaken O.Writer.ObjectWrite writer.new.bytes bytes }
 
         ensures full { result ≡ Ok false → ChangesAt self.old.workers.items self.new.workers.items (pred writer.old.worker) (IsFull O.Objects writer.old.bytes.bs) }

@@ -4,6 +4,8 @@ use Rattle.cluster_core.proofs.DoneSteps.{ends_refused, after_short, after_lost,
 use Rattle.cluster_core.specs.Writers.{StepsFrom}
 use Rattle.fs_model.specs.declared.event.Event.{Event}
 use Rattle.cluster_core.proofs.MediaStay.{media_kept, media_same, media_then}
+use Rattle.std.specs.Prelude.{pred}
+use Rattle.cluster_core.proofs.SteadyStay.{steady_added, steady_same, steady_still, writer_closed, writer_same}
 use Rattle.cluster_core.proofs.finishing.Core+O+O+Reader+O+Writer.finish_at.Goals as goal
 
 pub returns-in-Some-clause-steps : goal.returns-in-Some-clause-steps
@@ -29,3 +31,15 @@ returns-in-Err-Memory-clause-media g c = media_then g.O.Objects c.in-Err-Memory.
 
 pub returns-in-Err-Failed-clause-media : goal.returns-in-Err-Failed-clause-media
 returns-in-Err-Failed-clause-media g c = media_then g.O.Objects c.in-Err-Failed.ensures.media (media_kept g.O.Objects c.put_writer-in-Err-Failed.ensures.rest c.put_writer-in-Err-Failed.ensures.workers)
+
+pub returns-in-Some-clause-steady : goal.returns-in-Some-clause-steady
+returns-in-Some-clause-steady g c = λ steady good. steady_added g.O.Objects g.O.Reader.ObjectRead g.O.Writer.ObjectWrite (pred c.args.actor) _ _ c.put_writer.ensures.rest c.put_writer.ensures.workers c.put_writer.ensures.put good steady
+
+pub returns-in-Ok-clause-steady : goal.returns-in-Ok-clause-steady
+returns-in-Ok-clause-steady g c = λ steady good. steady_same g.O.Objects g.O.Reader.ObjectRead g.O.Writer.ObjectWrite c.note_done.ensures.workers c.note_done.ensures.hands (steady_still g.O.Objects g.O.Reader.ObjectRead g.O.Writer.ObjectWrite c.in-Ok.ensures.media c.in-Ok.ensures.hands steady)
+
+pub returns-in-Err-Memory-clause-steady : goal.returns-in-Err-Memory-clause-steady
+returns-in-Err-Memory-clause-steady g c = λ steady good. steady_added g.O.Objects g.O.Reader.ObjectRead g.O.Writer.ObjectWrite (pred c.args.actor) _ _ c.put_writer-in-Err-Memory.ensures.rest c.put_writer-in-Err-Memory.ensures.workers c.put_writer-in-Err-Memory.ensures.put (writer_same g.O.Reader.ObjectRead g.O.Writer.ObjectWrite c.args.writer c.commit_block.new.writer (c.in-Err-Memory.ensures.memory (ap Err c.in-Err-Memory.field-0-is)).1 good) (steady_still g.O.Objects g.O.Reader.ObjectRead g.O.Writer.ObjectWrite c.in-Err-Memory.ensures.media c.in-Err-Memory.ensures.hands steady)
+
+pub returns-in-Err-Failed-clause-steady : goal.returns-in-Err-Failed-clause-steady
+returns-in-Err-Failed-clause-steady g c = λ steady good. steady_added g.O.Objects g.O.Reader.ObjectRead g.O.Writer.ObjectWrite (pred c.args.actor) _ _ c.put_writer-in-Err-Failed.ensures.rest c.put_writer-in-Err-Failed.ensures.workers c.put_writer-in-Err-Failed.ensures.put (writer_closed g.O.Reader.ObjectRead g.O.Writer.ObjectWrite true c.args.writer c.commit_block.new.writer (c.in-Err-Failed.ensures.broken (ap Err c.in-Err-Failed.field-0-is)) good) (steady_still g.O.Objects g.O.Reader.ObjectRead g.O.Writer.ObjectWrite c.in-Err-Failed.ensures.media c.in-Err-Failed.ensures.hands steady)

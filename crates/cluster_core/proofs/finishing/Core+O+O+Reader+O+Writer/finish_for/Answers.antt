@@ -5,6 +5,8 @@ use Rattle.cluster_core.proofs.DoneSteps.{ends_absent, ends_short}
 use Rattle.cluster_core.specs.Writers.{StepsFrom}
 use Rattle.fs_model.specs.declared.event.Event.{Event}
 use Rattle.cluster_core.proofs.MediaStay.{media_kept}
+use Rattle.std.specs.Prelude.{pred}
+use Rattle.cluster_core.proofs.SteadyStay.{steady_added}
 use Rattle.cluster_core.proofs.finishing.Core+O+O+Reader+O+Writer.finish_for.Goals as goal
 
 pub returns-in-Err-clause-steps : goal.returns-in-Err-clause-steps
@@ -18,3 +20,9 @@ returns-in-Err-clause-media g c = media_kept g.O.Objects c.put_writer.ensures.re
 
 pub returns-in-Ok-None-clause-media : goal.returns-in-Ok-None-clause-media
 returns-in-Ok-None-clause-media g c = media_kept g.O.Objects c.put_writer-in-Ok-None.ensures.rest c.put_writer-in-Ok-None.ensures.workers
+
+pub returns-in-Err-clause-steady : goal.returns-in-Err-clause-steady
+returns-in-Err-clause-steady g c = λ steady good. steady_added g.O.Objects g.O.Reader.ObjectRead g.O.Writer.ObjectWrite (pred c.args.actor) _ _ c.put_writer.ensures.rest c.put_writer.ensures.workers c.put_writer.ensures.put good steady
+
+pub returns-in-Ok-None-clause-steady : goal.returns-in-Ok-None-clause-steady
+returns-in-Ok-None-clause-steady g c = λ steady good. steady_added g.O.Objects g.O.Reader.ObjectRead g.O.Writer.ObjectWrite (pred c.args.actor) _ _ c.put_writer-in-Ok-None.ensures.rest c.put_writer-in-Ok-None.ensures.workers c.put_writer-in-Ok-None.ensures.put good steady

@@ -1,6 +1,7 @@
 use Rattle.std.proofs.Common.{refl, sym}
 use Rattle.cluster_core.proofs.NamesGo.{mkdir_refused, mkdir_short, mkdir_done}
 use Rattle.cluster_core.proofs.MediaStay.{media_same}
+use Rattle.cluster_core.proofs.SteadyStay.{steady_same}
 use Rattle.cluster_core.proofs.naming.Core+O+O+Reader+O+Writer.mkdir.Goals as goal
 
 pub returns-in-Some-clause-steps : goal.returns-in-Some-clause-steps
@@ -20,3 +21,12 @@ returns-in-Ok-clause-media g c = media_same g.O.Objects refl refl
 
 pub returns-in-Err-clause-media : goal.returns-in-Err-clause-media
 returns-in-Err-clause-media g c = media_same g.O.Objects refl refl
+
+pub returns-in-Some-clause-steady : goal.returns-in-Some-clause-steady
+returns-in-Some-clause-steady g c = steady_same g.O.Objects g.O.Reader.ObjectRead g.O.Writer.ObjectWrite refl refl
+
+pub returns-in-Ok-clause-steady : goal.returns-in-Ok-clause-steady
+returns-in-Ok-clause-steady g c = steady_same g.O.Objects g.O.Reader.ObjectRead g.O.Writer.ObjectWrite refl refl
+
+pub returns-in-Err-clause-steady : goal.returns-in-Err-clause-steady
+returns-in-Err-clause-steady g c = steady_same g.O.Objects g.O.Reader.ObjectRead g.O.Writer.ObjectWrite refl refl
