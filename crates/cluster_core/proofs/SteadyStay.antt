@@ -1,13 +1,17 @@
 -- Over media that tell that they are steady what is under labels stays steady: each event's answer is a line of these.
-use Rattle.std.proofs.Common.{◌≡◌, ℕ, ◌<◌, arith, true, false, Bool, List, length, map, get_or, Option, Some, None, inl, inr, refl, sym, ap, ◌∙◌, subst}
+use Rattle.std.proofs.Common.{◌≡◌, ℕ, ◌<◌, arith, true, false, Bool, List, length, map, pred, get_or, Option, Some, None, inl, inr, refl, sym, ap, ◌∙◌, subst}
 use Rattle.std.specs.Prelude.{IfSome, IsSomeAnd, option_and_then, option_map, slice_get, if◌then◌else◌}
 use Rattle.std.proofs.lemmas.Bool.{cases_lt}
 use Rattle.std.specs.Global.{Vec}
 use Rattle.std.specs.List.{All}
 use Rattle.std.proofs.lemmas.Option.{same_Some, slice_get-map}
+use Rattle.fs_model.specs.declared.event.Event.{Event}
 use Rattle.fs_model.specs.declared.event.Fill.{Fill}
+use Rattle.fs_model.specs.declared.reply.Reply.{Reply}
+use Rattle.fs_model.specs.declared.reply.Refusal.{Refusal}
 use Rattle.fs_model.specs.State.{NodeRow}
 use Rattle.fs_model.specs.Words.{name_eq}
+use Rattle.outside.specs.Causes.{Rose}
 use Rattle.outside.specs.declared.media.Media.{Media}
 use Rattle.outside.specs.declared.objects.Objects as objects
 use Rattle.outside.specs.declared.objects.ObjectRead as reads
@@ -19,7 +23,9 @@ use Rattle.file_writer.specs.declared.pen.Pen.{Pen}
 use Rattle.file_writer.specs.Writing.{Writing, block_writer, without_writer}
 use Rattle.tier_book.specs.Rows.{fitting}
 use Rattle.cluster_core.specs.Begun.{HasNone}
+use Rattle.cluster_core.specs.Causes.{IsCaused, OnlyTier, TierCounted, UnderRose}
 use Rattle.cluster_core.specs.Committed.{closed_bytes, closed_writer}
+use Rattle.cluster_core.specs.Goes.{AtLabel, HandRose, HandWaited, SourceRose}
 use Rattle.cluster_core.specs.HandChanges.{AddsHand, EndsHand, KeepsHands}
 use Rattle.cluster_core.specs.LabelsView.{LabelsView, hand_in}
 use Rattle.cluster_core.specs.Kept.{KeepsRest}
@@ -276,3 +282,53 @@ module _ {S R W : Type 0} (o : objects.Ghosts S R W) (r : reads.Ghosts R) (w : w
     where
       never : (h : Hand R W) → None ≡ Some h → ⊥
       never h e = cc
+
+-- ---- causes
+
+module _ {S R W : Type 0} (o : objects.Ghosts S R W) (r : reads.Ghosts R) (w : writes.Ghosts W) where
+  -- what a count that isn't steady belongs to isn't steady
+  source_not : (count : R → ℕ) (v : ℕ) (p q : Option (BlockSource R)) → SourceRose o r w count v p q → IfSome p (λ b. r.steady b.stream.reader ≡ true) → ⊥
+  source_not count v p q rose steady =
+      let was = there_is (λ b. IsSomeAnd q (λ z. (b.worker ≡ v) × (r.steady b.stream.reader ≡ false) × Rose (count b.stream.reader) (count z.stream.reader))) p rose in
+      let now = there q was.2 in
+      let good : r.steady was.0.stream.reader ≡ true = subst (λ x. IfSome x (λ b. r.steady b.stream.reader ≡ true)) was.1 steady in
+      both_ways (r.steady was.0.stream.reader) good now.1.1
+
+  rose_not : (v : ℕ) (h k : Hand R W) → HandRose o r w v h k → IsHandSteady r w h → ⊥
+  rose_not v (Hand.Reading x) (Hand.Reading y) rose steady = source_not r.faults v x.source y.source rose steady
+  rose_not v (Hand.Writing x) (Hand.Writing y) rose steady = both_ways (is_block_steady w x.bytes.block) steady.0 rose.1
+  rose_not v (Hand.Reading x) (Hand.Writing y) rose steady = absurd rose
+  rose_not v (Hand.Writing x) (Hand.Reading y) rose steady = absurd rose
+
+  waited_not : (v : ℕ) (h k : Hand R W) → HandWaited o r w v h k → IsHandSteady r w h → ⊥
+  waited_not v (Hand.Reading x) (Hand.Reading y) rose steady = source_not r.waits v x.source y.source rose steady
+  waited_not v (Hand.Reading x) (Hand.Writing y) rose steady = absurd rose
+  waited_not v (Hand.Writing x) k rose steady = absurd rose
+
+  under_not : (s : ℕ) (h k : Hand R W) → UnderRose o r w s h k → IsHandSteady r w h → ⊥
+  under_not s (Hand.Writing x) (Hand.Writing y) rose steady = both_ways (is_object_steady w x.bytes.object) steady.1 rose.1
+  under_not s (Hand.Writing x) (Hand.Reading y) rose steady = absurd rose
+  under_not s (Hand.Reading x) k rose steady = absurd rose
+
+  -- so it is under a label
+  label_not : (P : Hand R W → Hand R W → Type 0) → ((h k : Hand R W) → P h k → IsHandSteady r w h → ⊥) → (old new : Core S R W w) (who : ℕ) (l : List ℕ) → AtLabel o r w old new who l P → IsSteady o r w old → ⊥
+  label_not P gives old new who l at steady =
+      let rows = both_there (slice_get old.hands.items (pred who)) (slice_get new.hands.items (pred who)) at in
+      let was = there_is (λ h. IsSomeAnd (hand_in rows.1 l) (λ k. P h k)) (hand_in rows.0 l) rows.4 in
+      let now = there (hand_in rows.1 l) was.2 in
+      gives was.0 now.0 now.1 (steady.hands (pred who) l rows.0 was.0 rows.2 was.1)
+
+  pub hand_rose_not : (old new : Core S R W w) (who v : ℕ) (l : List ℕ) → AtLabel o r w old new who l (HandRose o r w v) → IsSteady o r w old → ⊥
+  hand_rose_not old new who v l = label_not (HandRose o r w v) (rose_not v) old new who l
+
+  pub hand_waited_not : (old new : Core S R W w) (who v : ℕ) (l : List ℕ) → AtLabel o r w old new who l (HandWaited o r w v) → IsSteady o r w old → ⊥
+  hand_waited_not old new who v l = label_not (HandWaited o r w v) (waited_not v) old new who l
+
+  -- over steady media nothing but a tier's own count is the cause of a fault, and nothing waits
+  pub caused_by_tier : (old new : Core S R W w) (who : ℕ) (e : Event) (reply : Reply) → IsSteady o r w old → IsCaused o r w old new who e reply → OnlyTier (TierCounted o old new) reply
+  caused_by_tier old new who e (Reply.Refused (Refusal.TierFault v)) steady (inl counted) = counted
+  caused_by_tier old new who e (Reply.Refused (Refusal.TierFault v)) steady (inr h) = absurd (hand_rose_not old new who v h.0 h.2 steady)
+  caused_by_tier old new who e (Reply.Refused (Refusal.UnderFault s)) steady h = absurd (label_not (UnderRose o r w s) (under_not s) old new who h.0 h.2 steady)
+  caused_by_tier old new who e (Reply.Refused Refusal.JournalFault) steady h = absurd h
+  caused_by_tier old new who e Reply.NotReady steady h = absurd (hand_waited_not old new who h.0 h.1 h.3 steady)
+  caused_by_tier old new who e reply steady h = tt

@@ -19,10 +19,11 @@ use Rattle.cluster_core.specs.Causes.{IsCaused}
 use Rattle.cluster_core.specs.Goes.{Rises}
 use Rattle.cluster_core.specs.Media.{MediaStays}
 use Rattle.cluster_core.specs.Stands.{Stands}
+use Rattle.cluster_core.specs.Steady.{IsSteady}
 use Rattle.cluster_core.specs.declared.cluster.Core.{Core}
-use Rattle.play_run.specs.Play.{Says, Played, Acts, CausedAlong, Lines, QuietRuns, Ran, Tells, TellsFront, TellsPartly}
+use Rattle.play_run.specs.Play.{Says, Played, Acts, CausedAlong, Lines, Ran, Tells, TellsFront, TellsPartly}
 use Rattle.play_run.specs.Sums.{RiseAlong}
-use Rattle.play_run.proofs.Sums.{run_faults, run_waits, sums}
+use Rattle.play_run.proofs.Sums.{run_faults, run_waits, steady_sums, sums}
 
 -- ---- lists
 
@@ -66,18 +67,18 @@ next_command cs i c lt at = ap (λ (x : Command). take i cs ++ x ∷ []) at ∙ 
 -- ---- runs
 
 module _ {S R W : Type 0} (o : objects.Ghosts S R W) (r : reads.Ghosts R) (w : writes.Ghosts W) where
-  rise_more : (ls : List Line) (seen : List Observation) (l : Line) (x : Observation) (old mid new : Core S R W w) → RiseAlong o r w old ls seen mid → Rises o r w mid new l.actor x.rise → MediaStays o mid new → RiseAlong o r w old (ls ++ l ∷ []) (seen ++ x ∷ []) new
-  rise_more [] [] l x old mid new along h stays = (new, subst (λ (y : Core S R W w). Rises o r w y new l.actor x.rise) along h, subst (λ (y : Core S R W w). MediaStays o y new) along stays, refl)
-  rise_more (m ∷ ls) (y ∷ ys) l x old mid new along h stays = (along.0, along.1, along.2, rise_more ls ys l x along.0 mid new along.3 h stays)
-  rise_more [] (y ∷ ys) l x old mid new along h stays = absurd along
-  rise_more (m ∷ ls) [] l x old mid new along h stays = absurd along
+  rise_more : (ls : List Line) (seen : List Observation) (l : Line) (x : Observation) (old mid new : Core S R W w) → RiseAlong o r w old ls seen mid → Rises o r w mid new l.actor l.event x.rise → MediaStays o mid new → (IsSteady o r w mid → IsSteady o r w new) → RiseAlong o r w old (ls ++ l ∷ []) (seen ++ x ∷ []) new
+  rise_more [] [] l x old mid new along h stays steady = (new, subst (λ (y : Core S R W w). Rises o r w y new l.actor l.event x.rise) along h, subst (λ (y : Core S R W w). MediaStays o y new) along stays, subst (λ (y : Core S R W w). IsSteady o r w y → IsSteady o r w new) along steady, refl)
+  rise_more (m ∷ ls) (y ∷ ys) l x old mid new along h stays steady = (along.0, along.1, along.2, along.3, rise_more ls ys l x along.0 mid new along.4 h stays steady)
+  rise_more [] (y ∷ ys) l x old mid new along h stays steady = absurd along
+  rise_more (m ∷ ls) [] l x old mid new along h stays steady = absurd along
 
-  cause_more : (ls : List Line) (l : Line) (old mid new : Core S R W w) → CausedAlong o r w old ls mid → IsCaused o r w mid new l.actor l.reply → MediaStays o mid new → CausedAlong o r w old (ls ++ l ∷ []) new
-  cause_more [] l old mid new along h stays = (new, subst (λ (y : Core S R W w). IsCaused o r w y new l.actor l.reply) along h, subst (λ (y : Core S R W w). MediaStays o y new) along stays, refl)
-  cause_more (m ∷ ls) l old mid new along h stays = (along.0, along.1, along.2, cause_more ls l along.0 mid new along.3 h stays)
+  cause_more : (ls : List Line) (l : Line) (old mid new : Core S R W w) → CausedAlong o r w old ls mid → IsCaused o r w mid new l.actor l.event l.reply → MediaStays o mid new → (IsSteady o r w mid → IsSteady o r w new) → CausedAlong o r w old (ls ++ l ∷ []) new
+  cause_more [] l old mid new along h stays steady = (new, subst (λ (y : Core S R W w). IsCaused o r w y new l.actor l.event l.reply) along h, subst (λ (y : Core S R W w). MediaStays o y new) along stays, subst (λ (y : Core S R W w). IsSteady o r w y → IsSteady o r w new) along steady, refl)
+  cause_more (m ∷ ls) l old mid new along h stays steady = (along.0, along.1, along.2, along.3, cause_more ls l along.0 mid new along.4 h stays steady)
 
   ran_nothing : (U : Setup) (V : Whole) (core : Core S R W w) → Stands o r w U core V → Ran o r w U V core [] core
-  ran_nothing U V core stands = record { after = V; seen = []; run = refl; rose = refl; faults = run_faults o r U V V core [] [] core refl refl; not_ready = run_waits o r U V V core [] [] core refl refl; few = sums o r core [] [] core refl; stands = stands }
+  ran_nothing U V core stands = record { after = V; seen = []; run = refl; rose = refl; faults = run_faults o r U V V core [] [] core refl refl; not_ready = run_waits o r U V V core [] [] core refl refl; few = sums o r core [] [] core refl; steady = λ steady. steady_sums o r w core [] [] core refl steady; stands = stands }
 
   -- one line more
   ran_more : (U : Setup) (c : Command) (ls : List Line) (l : Line) (V : Whole) (old mid new : Core S R W w) → Ran o r w U V old ls mid → Acts o r w c l mid new → Ran o r w U V old (ls ++ l ∷ []) new
@@ -87,7 +88,7 @@ module _ {S R W : Type 0} (o : objects.Ghosts S R W) (r : reads.Ghosts R) (w : w
       let lines = ls ++ l ∷ [] in
       let seen = ran.seen ++ x ∷ [] in
       let run = run_more U ls ran.seen l x V ran.after goes.after ran.run goes.step in
-      let rose = rise_more ls ran.seen l x old mid new ran.rose goes.rises acts.media in
+      let rose = rise_more ls ran.seen l x old mid new ran.rose goes.rises acts.media acts.steady in
       record {
         after = goes.after;
         seen = seen;
@@ -96,13 +97,14 @@ module _ {S R W : Type 0} (o : objects.Ghosts S R W) (r : reads.Ghosts R) (w : w
         faults = run_faults o r U V goes.after old lines seen new rose run;
         not_ready = run_waits o r U V goes.after old lines seen new rose run;
         few = sums o r old lines seen new rose;
+        steady = steady_sums o r w old lines seen new rose;
         stands = goes.stands;
       }
 
   did_more : (cs : List Command) (c : Command) (ls : List Line) (l : Line) (old mid new : Core S R W w) → Lines o r w cs old ls mid → Acts o r w c l mid new → Lines o r w (cs ++ c ∷ []) old (ls ++ l ∷ []) new
   did_more cs c ls l old mid new did acts = record {
     played = played_more cs ls c l acts.says did.played;
-    caused = cause_more ls l old mid new did.caused acts.cause acts.media;
+    caused = cause_more ls l old mid new did.caused acts.cause acts.media acts.steady;
     ran = λ U V stands. ran_more U c ls l V old mid new (did.ran U V stands) acts;
   }
 
@@ -170,13 +172,6 @@ module _ {S R W : Type 0} (o : objects.Ghosts S R W) (r : reads.Ghosts R) (w : w
 
           shown : lines_text (take (length so_far.lines) lines) ++ take n (lines_text (drop (length so_far.lines) lines)) ≡ lines_text so_far.lines ++ take n (line_text l)
           shown = ap (λ ls. lines_text ls ++ take n (lines_text (drop (length so_far.lines) lines))) (take_front so_far.lines (l ∷ [])) ∙ ap (λ xs. lines_text so_far.lines ++ take n xs) last
-
--- where no count rose, no line answers a fault or a wait
-pub quiet_runs : {S R W : Type 0} (o : objects.Ghosts S R W) (r : reads.Ghosts R) (w : writes.Ghosts W) → QuietRuns o r w
-quiet_runs o r w U V old new lines ran none same hands waited = (
-  let few = ran.few none in omega (arith, few, ran.faults, same, hands),
-  omega (arith, ran.not_ready, waited),
-)
 
 -- what holds of each element of a list holds of the one at a place
 pub all_there : (test : Command → Bool) (cs : List Command) (i : ℕ) (c : Command) → list_all test cs ≡ true → i < length cs → c ≡ get_or cs i c → test c ≡ true

@@ -17,12 +17,15 @@ use Rattle.fs_model.proofs.Causes.{faults_have_causes}
 use Rattle.outside.specs.declared.objects.Objects as objects
 use Rattle.outside.specs.declared.objects.ObjectRead as reads
 use Rattle.outside.specs.declared.objects.ObjectWrite as writes
+use Rattle.cluster_core.proofs.MediaStay.{still_there}
 use Rattle.cluster_core.proofs.NodeChanges.{both_there}
+use Rattle.cluster_core.proofs.SteadyStay.{hand_rose_not, hand_waited_not}
 use Rattle.cluster_core.specs.Goes.{Rises, TierRose}
 use Rattle.cluster_core.specs.Media.{TiersStay, MediaStays}
+use Rattle.cluster_core.specs.Steady.{IsSteady}
 use Rattle.cluster_core.specs.declared.node.Node.{Node}
 use Rattle.cluster_core.specs.declared.cluster.Core.{Core}
-use Rattle.play_run.specs.Sums.{answers, is_of_hand, is_of_tier, is_of_waits, is_tier_fault, is_wait, labels, node_total, total, NoneLast, RiseAlong, own, waits}
+use Rattle.play_run.specs.Sums.{answers, how_many, is_of_hand, is_of_tier, is_of_waits, is_tier_fault, is_wait, labels, node_total, total, NoneLast, RiseAlong, own, waits}
 
 -- ---- answers
 
@@ -49,12 +52,6 @@ one false = omega arith
 none_of : (b : Bool) → b ≡ false → cond b 1 0 ≤ 0
 none_of true h = absurd (true≢false h)
 none_of false h = omega arith
-
--- ---- lists
-
--- a list of the same length has something at the same place
-still_there : {X : Type 0} (xs ys : List X) (i : ℕ) (x : X) → length ys ≡ length xs → slice_get xs i ≡ Some x → slice_get ys i ≡ Some (get_or ys i x)
-still_there xs ys i x same was = let within = slice_get_within xs i x was in slice_get-get_or ys i x (omega (arith, same, within))
 
 -- ---- sums
 
@@ -125,11 +122,11 @@ module _ {S R W : Type 0} (o : objects.Ghosts S R W) where
           let up = sum_rises o.faults n.tiers.items m.tiers.items t tier.0 tier.1 node.same_length node.faults tier.2 tier.3 (rose_by_one (o.faults tier.0) (o.faults tier.1) _ tier.4 few) in
           sum_rises (node_total o) old.workers.items new.workers.items (pred v) n m stays.workers.same_length (λ i a b was is. node_stays (stays.workers.each i a b was is)) at.2 at.3 up
 
-      line_rises : (old new : Core S R W w) (who : ℕ) (rise : Rise) (h : Rises o r w old new who rise) → MediaStays o old new → NoneLast o new → total o old + cond (is_of_tier o r w old new who rise h) 1 0 ≤ total o new
-      line_rises old new who rise (Rises.OfTier v t h) stays none = tier_rises old new v t h stays none
-      line_rises old new who rise Rises.Nothing stays none = let less = total_stays old new stays in omega (arith, less)
-      line_rises old new who rise (Rises.OfHand v l h) stays none = let less = total_stays old new stays in omega (arith, less)
-      line_rises old new who rise (Rises.OfWaits v l h) stays none = let less = total_stays old new stays in omega (arith, less)
+      line_rises : (old new : Core S R W w) (who : ℕ) (e : Event) (rise : Rise) (h : Rises o r w old new who e rise) → MediaStays o old new → NoneLast o new → total o old + cond (is_of_tier o r w old new who e rise h) 1 0 ≤ total o new
+      line_rises old new who e rise (Rises.OfTier v t h) stays none = tier_rises old new v t h stays none
+      line_rises old new who e rise Rises.Nothing stays none = let less = total_stays old new stays in omega (arith, less)
+      line_rises old new who e rise (Rises.OfHand v l u h) stays none = let less = total_stays old new stays in omega (arith, less)
+      line_rises old new who e rise (Rises.OfWaits v l u h) stays none = let less = total_stays old new stays in omega (arith, less)
 
       -- ---- a chain of cores
 
@@ -137,8 +134,8 @@ module _ {S R W : Type 0} (o : objects.Ghosts S R W) where
       along_rises : (old : Core S R W w) (lines : List Line) (seen : List Observation) (new : Core S R W w) (along : RiseAlong o r w old lines seen new) → NoneLast o new → NoneLast o old × (total o old + own o r w old lines seen new along ≤ total o new)
       along_rises old [] [] new along none = subst (λ (core : Core S R W w). NoneLast o core × (total o core + 0 ≤ total o new)) along (none, omega arith)
       along_rises old (line ∷ lines) (x ∷ more) new along none =
-          let rest = along_rises along.0 lines more new along.3 none in
-          let first = line_rises old along.0 line.actor x.rise along.1 along.2 rest.0 in
+          let rest = along_rises along.0 lines more new along.4 none in
+          let first = line_rises old along.0 line.actor line.event x.rise along.1 along.2 rest.0 in
           (none_before old along.0 along.2 rest.0, omega (arith, first, rest.1))
       along_rises old [] (x ∷ more) new along none = absurd along
       along_rises old (line ∷ lines) [] new along none = absurd along
@@ -147,17 +144,17 @@ module _ {S R W : Type 0} (o : objects.Ghosts S R W) where
       sums old lines seen new along none = (along_rises old lines seen new along none).1
 
       -- a line's answer, and what rose in it
-      line_faults : (old new : Core S R W w) (who : ℕ) (rise : Rise) (h : Rises o r w old new who rise) (U : Setup) (A : State) (H : Hands) (e : Event) (reply : Reply) → is_caused U A H e rise reply ≡ true → cond (is_tier_fault reply) 1 0 ≤ cond (is_of_tier o r w old new who rise h) 1 0 + cond (is_of_hand o r w old new who rise h) 1 0
-      line_faults old new who rise Rises.Nothing U A H e reply is = none_of (is_tier_fault reply) (no_tier_fault U A H e rise reply refl is)
-      line_faults old new who rise (Rises.OfTier v t h) U A H e reply is = one (is_tier_fault reply)
-      line_faults old new who rise (Rises.OfHand v l h) U A H e reply is = one (is_tier_fault reply)
-      line_faults old new who rise (Rises.OfWaits v l h) U A H e reply is = none_of (is_tier_fault reply) (no_tier_fault U A H e rise reply refl is)
+      line_faults : (old new : Core S R W w) (who : ℕ) (e : Event) (rise : Rise) (h : Rises o r w old new who e rise) (U : Setup) (A : State) (H : Hands) (reply : Reply) → is_caused U A H e rise reply ≡ true → cond (is_tier_fault reply) 1 0 ≤ cond (is_of_tier o r w old new who e rise h) 1 0 + cond (is_of_hand o r w old new who e rise h) 1 0
+      line_faults old new who e rise Rises.Nothing U A H reply is = none_of (is_tier_fault reply) (no_tier_fault U A H e rise reply refl is)
+      line_faults old new who e rise (Rises.OfTier v t h) U A H reply is = one (is_tier_fault reply)
+      line_faults old new who e rise (Rises.OfHand v l u h) U A H reply is = one (is_tier_fault reply)
+      line_faults old new who e rise (Rises.OfWaits v l u h) U A H reply is = none_of (is_tier_fault reply) (no_tier_fault U A H e rise reply refl is)
 
-      line_waits : (old new : Core S R W w) (who : ℕ) (rise : Rise) (h : Rises o r w old new who rise) (U : Setup) (A : State) (H : Hands) (e : Event) (reply : Reply) → is_caused U A H e rise reply ≡ true → cond (is_wait reply) 1 0 ≤ cond (is_of_waits o r w old new who rise h) 1 0
-      line_waits old new who rise Rises.Nothing U A H e reply is = none_of (is_wait reply) (no_wait U A H e rise reply refl is)
-      line_waits old new who rise (Rises.OfTier v t h) U A H e reply is = none_of (is_wait reply) (no_wait U A H e rise reply refl is)
-      line_waits old new who rise (Rises.OfHand v l h) U A H e reply is = none_of (is_wait reply) (no_wait U A H e rise reply refl is)
-      line_waits old new who rise (Rises.OfWaits v l h) U A H e reply is = one (is_wait reply)
+      line_waits : (old new : Core S R W w) (who : ℕ) (e : Event) (rise : Rise) (h : Rises o r w old new who e rise) (U : Setup) (A : State) (H : Hands) (reply : Reply) → is_caused U A H e rise reply ≡ true → cond (is_wait reply) 1 0 ≤ cond (is_of_waits o r w old new who e rise h) 1 0
+      line_waits old new who e rise Rises.Nothing U A H reply is = none_of (is_wait reply) (no_wait U A H e rise reply refl is)
+      line_waits old new who e rise (Rises.OfTier v t h) U A H reply is = none_of (is_wait reply) (no_wait U A H e rise reply refl is)
+      line_waits old new who e rise (Rises.OfHand v l u h) U A H reply is = none_of (is_wait reply) (no_wait U A H e rise reply refl is)
+      line_waits old new who e rise (Rises.OfWaits v l u h) U A H reply is = one (is_wait reply)
 
       -- ---- a run
 
@@ -165,8 +162,8 @@ module _ {S R W : Type 0} (o : objects.Ghosts S R W) where
       run_faults U V after old [] [] new along run = omega arith
       run_faults U V after old (line ∷ lines) (x ∷ more) new along run =
           let c = step_caused U V run.0 line x run.1 in
-          let first = line_faults old along.0 line.actor x.rise along.1 U c.0 c.1 line.event line.reply c.2 in
-          let rest = run_faults U run.0 after along.0 lines more new along.3 run.2 in
+          let first = line_faults old along.0 line.actor line.event x.rise along.1 U c.0 c.1 line.reply c.2 in
+          let rest = run_faults U run.0 after along.0 lines more new along.4 run.2 in
           omega (arith, first, rest, sum_by-cons (λ (l : Line). cond (is_tier_fault l.reply) 1 0) line lines)
       run_faults U V after old [] (x ∷ more) new along run = absurd along
       run_faults U V after old (line ∷ lines) [] new along run = absurd along
@@ -175,8 +172,35 @@ module _ {S R W : Type 0} (o : objects.Ghosts S R W) where
       run_waits U V after old [] [] new along run = omega arith
       run_waits U V after old (line ∷ lines) (x ∷ more) new along run =
           let c = step_caused U V run.0 line x run.1 in
-          let first = line_waits old along.0 line.actor x.rise along.1 U c.0 c.1 line.event line.reply c.2 in
-          let rest = run_waits U run.0 after along.0 lines more new along.3 run.2 in
+          let first = line_waits old along.0 line.actor line.event x.rise along.1 U c.0 c.1 line.reply c.2 in
+          let rest = run_waits U run.0 after along.0 lines more new along.4 run.2 in
           omega (arith, first, rest, sum_by-cons (λ (l : Line). cond (is_wait l.reply) 1 0) line lines)
       run_waits U V after old [] (x ∷ more) new along run = absurd along
       run_waits U V after old (line ∷ lines) [] new along run = absurd along
+
+module _ {S R W : Type 0} (o : objects.Ghosts S R W) (r : reads.Ghosts R) (w : writes.Ghosts W) where
+  -- ---- steady media
+
+  no_hand : (old new : Core S R W w) (who : ℕ) (e : Event) (rise : Rise) (h : Rises o r w old new who e rise) → IsSteady o r w old → is_of_hand o r w old new who e rise h ≡ false
+  no_hand old new who e rise (Rises.OfHand v l u h) steady = absurd (hand_rose_not o r w old new who v l h steady)
+  no_hand old new who e rise Rises.Nothing steady = refl
+  no_hand old new who e rise (Rises.OfTier v t h) steady = refl
+  no_hand old new who e rise (Rises.OfWaits v l u h) steady = refl
+
+  no_waits : (old new : Core S R W w) (who : ℕ) (e : Event) (rise : Rise) (h : Rises o r w old new who e rise) → IsSteady o r w old → is_of_waits o r w old new who e rise h ≡ false
+  no_waits old new who e rise (Rises.OfWaits v l u h) steady = absurd (hand_waited_not o r w old new who v l h steady)
+  no_waits old new who e rise Rises.Nothing steady = refl
+  no_waits old new who e rise (Rises.OfTier v t h) steady = refl
+  no_waits old new who e rise (Rises.OfHand v l u h) steady = refl
+
+  -- no rise passes a test that none passes over steady media
+  none_along : (test : (old new : Core S R W w) (who : ℕ) (e : Event) (rise : Rise) → Rises o r w old new who e rise → Bool) → ((old new : Core S R W w) (who : ℕ) (e : Event) (rise : Rise) (h : Rises o r w old new who e rise) → IsSteady o r w old → test old new who e rise h ≡ false) → (old : Core S R W w) (lines : List Line) (seen : List Observation) (new : Core S R W w) (along : RiseAlong o r w old lines seen new) → IsSteady o r w old → how_many o r w test old lines seen new along ≡ 0
+  none_along test fails old [] seen new along steady = refl
+  none_along test fails old (line ∷ lines) [] new along steady = absurd along
+  none_along test fails old (line ∷ lines) (x ∷ more) new along steady =
+      let first = ap {B = ℕ} (λ b. cond b 1 0) (fails old along.0 line.actor line.event x.rise along.1 steady) in
+      let rest = none_along test fails along.0 lines more new along.4 (along.3 steady) in
+      omega (arith, first, rest)
+
+  pub steady_sums : (old : Core S R W w) (lines : List Line) (seen : List Observation) (new : Core S R W w) (along : RiseAlong o r w old lines seen new) → IsSteady o r w old → (labels o r w old lines seen new along ≡ 0) × (waits o r w old lines seen new along ≡ 0)
+  steady_sums old lines seen new along steady = (none_along (is_of_hand o r w) no_hand old lines seen new along steady, none_along (is_of_waits o r w) no_waits old lines seen new along steady)

@@ -14,12 +14,13 @@ use Rattle.script_text.specs.declared.script.Command.{Command}
 use Rattle.script_text.specs.declared.script.Verb.{Verb}
 use Rattle.script_text.specs.LineText.{lines_text}
 use Rattle.cluster_core.specs.Begun.{TiersEmpty}
-use Rattle.cluster_core.specs.Causes.{IsCaused}
+use Rattle.cluster_core.specs.Causes.{IsCaused, OnlyTier, TierCounted}
 use Rattle.cluster_core.specs.Goes.{Steps}
 use Rattle.cluster_core.specs.Media.{MediaStays}
 use Rattle.cluster_core.specs.Stands.{Stands}
+use Rattle.cluster_core.specs.Steady.{IsSteady, MediaSteady}
 use Rattle.cluster_core.specs.declared.cluster.Core.{Core}
-use Rattle.play_run.specs.Sums.{RiseAlong, NoneLast, answers, is_tier_fault, is_wait, labels, own, total, waits}
+use Rattle.play_run.specs.Sums.{RiseAlong, NoneLast, NoneLastIn, answers, is_tier_fault, is_wait, labels, media_total, own, total, waits}
 
 -- ---- lines of commands
 
@@ -41,14 +42,15 @@ module _ {S R W : Type 0} (o : objects.Ghosts S R W) (r : reads.Ghosts R) (w : w
     pub says : Says command line
     pub steps : Steps o r w old new line.actor line.event line.reply
     pub media : MediaStays o old new
-    pub cause : IsCaused o r w old new line.actor line.reply
+    pub cause : IsCaused o r w old new line.actor line.event line.reply
+    pub steady : IsSteady o r w old → IsSteady o r w new
 
   -- ---- runs
 
-  -- there are cores from one line to the next, between which a fault or a wait has its cause, whatever they stand for
+  -- there are cores from one line to the next, between which a fault or a wait has its cause, whatever they stand for; what is steady stays so
   abbrev pub CausedAlong : Core S R W w → List Line → Core S R W w → Type 0
   CausedAlong old [] new = new ≡ old
-  CausedAlong old (line ∷ lines) new = (mid : Core S R W w) × IsCaused o r w old mid line.actor line.reply × MediaStays o old mid × CausedAlong mid lines new
+  CausedAlong old (line ∷ lines) new = (mid : Core S R W w) × IsCaused o r w old mid line.actor line.event line.reply × MediaStays o old mid × (IsSteady o r w old → IsSteady o r w mid) × CausedAlong mid lines new
 
   -- the lines are a run of the machine to a state that the core stands for then, and each rise in it is that of real counts in that event
   pub record Ran (U : Setup) (V : Whole) (old : Core S R W w) (lines : List Line) (new : Core S R W w) : Type 0 where
@@ -62,14 +64,9 @@ module _ {S R W : Type 0} (o : objects.Ghosts S R W) (r : reads.Ghosts R) (w : w
     pub not_ready : answers is_wait lines ≤ waits o r w old lines seen new rose
     -- the sum of the tiers' counts rose by one or more for each line in which one of them did, where none came to its last value
     pub few : NoneLast o new → total o old + own o r w old lines seen new rose ≤ total o new
+    -- over steady media no count and no waits of a label's reader or writer rose
+    pub steady : IsSteady o r w old → (labels o r w old lines seen new rose ≡ 0) × (waits o r w old lines seen new rose ≡ 0)
     pub stands : Stands o r w U new after
-
-  -- where the sum of the tiers' counts is the same at the end, and no label's count or waits rose, no line answers a tier's fault or that the reader isn't ready
-  abbrev pub QuietRuns : Type 0
-  QuietRuns = (U : Setup) (V : Whole) (old new : Core S R W w) (lines : List Line) (ran : Ran U V old lines new)
-      → NoneLast o new → total o new ≡ total o old
-      → labels o r w old lines ran.seen new ran.rose ≡ 0 → waits o r w old lines ran.seen new ran.rose ≡ 0
-      → (answers is_tier_fault lines ≡ 0) × (answers is_wait lines ≡ 0)
 
   -- the lines are of these commands, each once and in order; each fault in them has its cause; and from every state that the core stood for they are a run
   pub record Lines (commands : List Command) (old : Core S R W w) (lines : List Line) (new : Core S R W w) : Type 0 where
@@ -117,5 +114,28 @@ module _ {S R W : Type 0} (o : objects.Ghosts S R W) (r : reads.Ghosts R) (w : w
     pub last : Core S R W w
     pub opened : IsOver first media
     pub stands : (V : Whole) → Begins U V → TiersEmpty o media → Stands o r w U first V
+    pub steady : MediaSteady o media → IsSteady o r w first
     pub closed : IsOver last back
     pub holds : P first last
+
+  -- ---- steady media
+
+  -- there are cores from one line to the next, between which nothing but a tier's own count is the cause of a fault, and nothing waits
+  abbrev pub TiersAlong : Core S R W w → List Line → Core S R W w → Type 0
+  TiersAlong old [] new = new ≡ old
+  TiersAlong old (line ∷ lines) new = (mid : Core S R W w) × OnlyTier (TierCounted o old mid) line.reply × MediaStays o old mid × TiersAlong mid lines new
+
+  -- over steady media the lines of a play are such, and none is that the reader isn't ready
+  abbrev pub SteadyPlays : Type 0
+  SteadyPlays = (U : Setup) (commands : List Command) (media back : Media S) (before after : Option (List ℕ))
+      (play : Between U media back (λ first last. Tells commands first last before after))
+      → MediaSteady o media
+      → TiersAlong play.first play.holds.lines play.last × (answers is_wait play.holds.lines ≡ 0)
+
+  -- where besides the tiers tell and hold no object at the beginning, and the sum of their counts is the same at the end, no line answers a tier's fault
+  abbrev pub QuietPlays : Type 0
+  QuietPlays = (U : Setup) (V : Whole) (commands : List Command) (media back : Media S) (before after : Option (List ℕ))
+      (play : Between U media back (λ first last. Tells commands first last before after))
+      → Begins U V → TiersEmpty o media → MediaSteady o media
+      → NoneLastIn o back → media_total o back ≡ media_total o media
+      → answers is_tier_fault play.holds.lines ≡ 0

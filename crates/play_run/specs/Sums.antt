@@ -1,15 +1,19 @@
 -- What rose along a run, and the sums of the tiers' counts.
 use Rattle.std.specs.Prelude.{ℕ, ◌≡◌, ◌<◌, ◌+◌, ◌-◌, ◌^◌, Bool, true, false, cond, List, [], ◌∷◌, Some, slice_get, sum_by, count_by}
+use Rattle.std.specs.List.{All}
+use Rattle.fs_model.specs.declared.event.Event.{Event}
 use Rattle.fs_model.specs.declared.reply.Line.{Line}
 use Rattle.fs_model.specs.declared.reply.Reply.{Reply}
 use Rattle.fs_model.specs.declared.reply.Refusal.{Refusal}
 use Rattle.fs_model.specs.Faults.{Rise}
 use Rattle.fs_model.specs.Step.{Observation}
+use Rattle.outside.specs.declared.media.Media.{Media}
 use Rattle.outside.specs.declared.objects.Objects as objects
 use Rattle.outside.specs.declared.objects.ObjectRead as reads
 use Rattle.outside.specs.declared.objects.ObjectWrite as writes
 use Rattle.cluster_core.specs.Goes.{Rises}
 use Rattle.cluster_core.specs.Media.{MediaStays}
+use Rattle.cluster_core.specs.Steady.{IsSteady}
 use Rattle.cluster_core.specs.declared.node.Node.{Node}
 use Rattle.cluster_core.specs.declared.cluster.Core.{Core}
 
@@ -36,6 +40,14 @@ module _ {S R W : Type 0} (o : objects.Ghosts S R W) where
   abbrev pub node_total : Node S → ℕ
   node_total n = sum_by o.faults n.tiers.items
 
+  -- so it is of the tiers of some media
+  abbrev pub media_total : Media S → ℕ
+  media_total m = sum_by (λ v. sum_by o.faults v.items) m.tiers.items
+
+  -- no tier's count has come to its last value
+  abbrev pub NoneLastIn : Media S → Type 0
+  NoneLastIn m = All (λ v. All (λ s. o.faults s < 2 ^ 64 - 1) v.items) m.tiers.items
+
   module _ {w : writes.Ghosts W} where
     -- the sum of the counts of all tiers
     abbrev pub total : Core S R W w → ℕ
@@ -48,33 +60,33 @@ module _ {S R W : Type 0} (o : objects.Ghosts S R W) where
 module _ {S R W : Type 0} (o : objects.Ghosts S R W) (r : reads.Ghosts R) (w : writes.Ghosts W) where
   -- ---- what rose
 
-  -- there are cores from one line to the next, between which the counts rose as observed, and no tier's count fell
+  -- there are cores from one line to the next, between which the counts rose as observed, no tier's count fell, and what is steady stays so
   abbrev pub RiseAlong : Core S R W w → List Line → List Observation → Core S R W w → Type 0
   RiseAlong old [] [] new = new ≡ old
-  RiseAlong old (line ∷ lines) (seen ∷ more) new = (mid : Core S R W w) × Rises o r w old mid line.actor seen.rise × MediaStays o old mid × RiseAlong mid lines more new
+  RiseAlong old (line ∷ lines) (seen ∷ more) new = (mid : Core S R W w) × Rises o r w old mid line.actor line.event seen.rise × MediaStays o old mid × (IsSteady o r w old → IsSteady o r w mid) × RiseAlong mid lines more new
   RiseAlong old [] (seen ∷ more) new = ⊥
   RiseAlong old (line ∷ lines) [] new = ⊥
 
   -- a tier's own count rose, which the tier keeps
-  abbrev pub is_of_tier : (old new : Core S R W w) (who : ℕ) (rise : Rise) → Rises o r w old new who rise → Bool
-  is_of_tier old new who rise (Rises.OfTier v t h) = true
-  is_of_tier old new who rise h = false
+  abbrev pub is_of_tier : (old new : Core S R W w) (who : ℕ) (e : Event) (rise : Rise) → Rises o r w old new who e rise → Bool
+  is_of_tier old new who e rise (Rises.OfTier v t h) = true
+  is_of_tier old new who e rise h = false
 
   -- the count of a label's reader or writer rose, which is dropped with the label
-  abbrev pub is_of_hand : (old new : Core S R W w) (who : ℕ) (rise : Rise) → Rises o r w old new who rise → Bool
-  is_of_hand old new who rise (Rises.OfHand v l h) = true
-  is_of_hand old new who rise h = false
+  abbrev pub is_of_hand : (old new : Core S R W w) (who : ℕ) (e : Event) (rise : Rise) → Rises o r w old new who e rise → Bool
+  is_of_hand old new who e rise (Rises.OfHand v l u h) = true
+  is_of_hand old new who e rise h = false
 
   -- the waits of a label's reader rose
-  abbrev pub is_of_waits : (old new : Core S R W w) (who : ℕ) (rise : Rise) → Rises o r w old new who rise → Bool
-  is_of_waits old new who rise (Rises.OfWaits v l h) = true
-  is_of_waits old new who rise h = false
+  abbrev pub is_of_waits : (old new : Core S R W w) (who : ℕ) (e : Event) (rise : Rise) → Rises o r w old new who e rise → Bool
+  is_of_waits old new who e rise (Rises.OfWaits v l u h) = true
+  is_of_waits old new who e rise h = false
 
   -- how many lines' rises pass the test
-  abbrev pub how_many : ((old new : Core S R W w) (who : ℕ) (rise : Rise) → Rises o r w old new who rise → Bool) → (old : Core S R W w) (lines : List Line) (seen : List Observation) (new : Core S R W w) → RiseAlong old lines seen new → ℕ
+  abbrev pub how_many : ((old new : Core S R W w) (who : ℕ) (e : Event) (rise : Rise) → Rises o r w old new who e rise → Bool) → (old : Core S R W w) (lines : List Line) (seen : List Observation) (new : Core S R W w) → RiseAlong old lines seen new → ℕ
   how_many test old [] seen new along = 0
   how_many test old (line ∷ lines) [] new along = 0
-  how_many test old (line ∷ lines) (seen ∷ more) new along = cond (test old along.0 line.actor seen.rise along.1) 1 0 + how_many test along.0 lines more new along.3
+  how_many test old (line ∷ lines) (seen ∷ more) new along = cond (test old along.0 line.actor line.event seen.rise along.1) 1 0 + how_many test along.0 lines more new along.4
 
   -- how many lines' rises are of a tier's own count
   abbrev pub own : (old : Core S R W w) (lines : List Line) (seen : List Observation) (new : Core S R W w) → RiseAlong old lines seen new → ℕ

@@ -13,6 +13,7 @@ ghost use Rattle.cluster_core.specs.Begun.{MediaFit, tier_counts};
 ghost use Rattle.cluster_core.specs.Causes.{IsCaused};
 ghost use Rattle.cluster_core.specs.Goes.{Steps};
 ghost use Rattle.cluster_core.specs.Media.{MediaStays};
+ghost use Rattle.cluster_core.specs.Steady.{IsSteady};
 ghost use Rattle.play_run.specs.Play.{Acts, Between, Tells, TellsFront, TellsPartly};
 
 use cluster_core::cluster::Core;
@@ -63,7 +64,8 @@ fn answer<O: Objects>(
     ensures actor { result.actor ≡ actor }
     ensures steps { Steps O.Objects O.Reader.ObjectRead O.Writer.ObjectWrite core.old core.new result.actor result.event result.reply }
     ensures media { MediaStays O.Objects core.old core.new }
-    ensures cause { IsCaused O.Objects O.Reader.ObjectRead O.Writer.ObjectWrite core.old core.new result.actor result.reply }
+    ensures cause { IsCaused O.Objects O.Reader.ObjectRead O.Writer.ObjectWrite core.old core.new result.actor result.event result.reply }
+    ensures steady { IsSteady O.Objects O.Reader.ObjectRead O.Writer.ObjectWrite core.old → IsSteady O.Objects O.Reader.ObjectRead O.Writer.ObjectWrite core.new }
 {
     let reply = core.step(alloc, actor, &event);
     Line {

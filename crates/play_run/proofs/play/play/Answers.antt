@@ -9,6 +9,7 @@ returns-in-Ok-clause-ok g c = if_ok c.play_over-played.result _ _ (λ told. reco
   last = c.play_over-played.new.core;
   opened = record { stores = c.in-Ok.ensures.stores; tiers = c.in-Ok.ensures.tiers };
   stands = c.in-Ok.ensures.stands;
+  steady = c.in-Ok.ensures.steady;
   closed = record { stores = sym c.close.ensures.stores; tiers = sym c.close.ensures.tiers };
   holds = told;
 }) c.play_over-played.ensures.ok
@@ -19,6 +20,7 @@ returns-in-Ok-clause-write g c = λ h. record {
   last = c.play_over-played.new.core;
   opened = record { stores = c.in-Ok.ensures.stores; tiers = c.in-Ok.ensures.tiers };
   stands = c.in-Ok.ensures.stands;
+  steady = c.in-Ok.ensures.steady;
   closed = record { stores = sym c.close.ensures.stores; tiers = sym c.close.ensures.tiers };
   holds = c.play_over-played.ensures.write h;
 }
@@ -29,6 +31,7 @@ returns-in-Ok-clause-memory g c = λ h. inr (record {
   last = c.play_over-played.new.core;
   opened = record { stores = c.in-Ok.ensures.stores; tiers = c.in-Ok.ensures.tiers };
   stands = c.in-Ok.ensures.stands;
+  steady = c.in-Ok.ensures.steady;
   closed = record { stores = sym c.close.ensures.stores; tiers = sym c.close.ensures.tiers };
   holds = c.play_over-played.ensures.memory h;
 })
