@@ -1,4 +1,6 @@
-use Rattle.std.proofs.Common.{refl, ap, ◌∙◌, inl, inr}
+use Rattle.std.proofs.Common.{refl, ap, ◌∙◌, inl, inr, subst}
+use Rattle.outside.specs.Shelf.{KeepsBut, all_names, under}
+use Rattle.outside.proofs.Returned.{same_then}
 use Rattle.node_main.proofs.run.play_script.Goals as goal
 
 pub returns-in-Ok-assemble-clause-done : goal.returns-in-Ok-assemble-clause-done
@@ -33,3 +35,8 @@ returns-in-Ok-assemble-clause-memory g c = λ h.
         played = rw (c.in-Ok.ensures.setup, c.assemble.ensures.output) at front;
       })
     ]
+
+pub returns-in-Ok-assemble-clause-others : goal.returns-in-Ok-assemble-clause-others
+returns-in-Ok-assemble-clause-others g c = λ name other.
+    let first = subst (λ names. KeepsBut (all_names names) (g.W.World.shelf c.args.world.now) (g.W.World.shelf c.assemble.new.self)) c.in-Ok.ensures.names c.in-Ok-assemble.ensures.others in
+    same_then (under (g.W.World.shelf c.args.world.now) name) (under (g.W.World.shelf c.assemble.new.self) name) (under (g.W.World.shelf c.play_lent.new.world) name) (first name other) (c.play_lent.ensures.others name other)

@@ -17,7 +17,7 @@ pub returns-in-Some-clause-media : goal.returns-in-Some-clause-media
 returns-in-Some-clause-media g c = media_then g.O.Objects (media_kept g.O.Objects c.in-Some.ensures.rest c.in-Some.ensures.workers) (media_freed g.O.Objects c.in-Some.row.hand c.free_reserved.ensures.rest c.free_reserved.ensures.freed c.free_reserved.ensures.stopped c.free_reserved.ensures.none)
 
 pub returns-in-None-clause-steady : goal.returns-in-None-clause-steady
-returns-in-None-clause-steady g c = 
+returns-in-None-clause-steady g c =
     let took = c.in-None.ensures in
     steady_kept g.O.Objects g.O.Reader.ObjectRead g.O.Writer.ObjectWrite (pred c.args.actor) took.rest took.workers took.same
 

@@ -35,12 +35,12 @@ pub returns-in-Some-clause-steady : goal.returns-in-Some-clause-steady
 returns-in-Some-clause-steady g c = steady_same g.O.Objects g.O.Reader.ObjectRead g.O.Writer.ObjectWrite refl refl
 
 pub returns-in-Ok-clause-steady : goal.returns-in-Ok-clause-steady
-returns-in-Ok-clause-steady g c = 
+returns-in-Ok-clause-steady g c =
     let made = c.in-Ok.ensures in
     steady_by g.O.Objects g.O.Reader.ObjectRead g.O.Writer.ObjectWrite (media_same g.O.Objects made.stores made.workers) (hands_added g.O.Reader.ObjectRead g.O.Writer.ObjectWrite c.args.self.now.hands.items c.make_file.new.self.hands.items (pred c.args.actor) c.args.label.now _ made.hands (refl, refl))
 
 pub returns-in-Err-clause-steady : goal.returns-in-Err-clause-steady
-returns-in-Err-clause-steady g c = 
+returns-in-Err-clause-steady g c =
     let made = c.in-Err.ensures in
     steady_by g.O.Objects g.O.Reader.ObjectRead g.O.Writer.ObjectWrite (media_same g.O.Objects made.stores made.workers) (hands_kept g.O.Reader.ObjectRead g.O.Writer.ObjectWrite c.args.self.now.hands.items c.make_file.new.self.hands.items (pred c.args.actor) made.same_hands)
 

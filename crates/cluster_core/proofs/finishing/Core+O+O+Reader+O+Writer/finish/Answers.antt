@@ -14,7 +14,7 @@ pub returns-in-Some-clause-media : goal.returns-in-Some-clause-media
 returns-in-Some-clause-media g c = media_then g.O.Objects (media_kept g.O.Objects c.in-Some.ensures.took.rest c.in-Some.ensures.took.workers) c.finish_for.ensures.media
 
 pub returns-in-None-clause-steady : goal.returns-in-None-clause-steady
-returns-in-None-clause-steady g c = 
+returns-in-None-clause-steady g c =
     let took = c.in-None.ensures in
     steady_kept g.O.Objects g.O.Reader.ObjectRead g.O.Writer.ObjectWrite (pred c.args.actor) took.rest took.workers took.same
 

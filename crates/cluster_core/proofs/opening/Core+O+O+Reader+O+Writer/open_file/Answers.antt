@@ -38,7 +38,7 @@ pub returns-in-Err-clause-steady : goal.returns-in-Err-clause-steady
 returns-in-Err-clause-steady g c = steady_same g.O.Objects g.O.Reader.ObjectRead g.O.Writer.ObjectWrite refl refl
 
 pub returns-in-Err-prepare_label-clause-steady : goal.returns-in-Err-prepare_label-clause-steady
-returns-in-Err-prepare_label-clause-steady g c = 
+returns-in-Err-prepare_label-clause-steady g c =
     let did = c.prepare_label.ensures in
     steady_kept g.O.Objects g.O.Reader.ObjectRead g.O.Writer.ObjectWrite (pred c.args.actor) did.rest did.workers did.hands
 

@@ -30,7 +30,7 @@ returns-in-Some-clause-cause g c =
     put_caused g.O.Objects g.O.Reader.ObjectRead g.O.Writer.ObjectWrite c.args.self.now c.take_hand.new.self c.put_hand.new.self c.args.actor c.args.label.now c.in-Some.taken.label c.in-Some.taken.hand c.put_under-end.new.hand took.label took.taken c.put_hand.ensures.put c.take_hand.new.self.block c.args.fill.now c.put_under-end.result c.put_under-end.ensures c.reply_of.result c.reply_of.ensures
 
 pub returns-in-None-clause-steady : goal.returns-in-None-clause-steady
-returns-in-None-clause-steady g c = 
+returns-in-None-clause-steady g c =
     let took = c.in-None.ensures in
     steady_kept g.O.Objects g.O.Reader.ObjectRead g.O.Writer.ObjectWrite (pred c.args.actor) took.rest took.workers took.same
 

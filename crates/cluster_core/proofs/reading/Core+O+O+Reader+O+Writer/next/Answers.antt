@@ -30,7 +30,7 @@ returns-in-Some-clause-cause g c =
     next_caused g.O.Objects g.O.Reader.ObjectRead g.O.Writer.ObjectWrite c.args.self.now c.take_hand.new.self c.seek_hand-found.new.self c.put_hand.new.self c.args.actor (Event.Next c.args.label.now) took.workers c.put_hand.ensures.workers c.take_hand.new.self.names.nodes c.take_hand.new.self.block c.in-Some.row.hand c.seek_hand-found.new.hand c.seek_hand-found.result c.seek_hand-found.ensures.found c.found_reply.result c.found_reply.ensures
 
 pub returns-in-None-clause-steady : goal.returns-in-None-clause-steady
-returns-in-None-clause-steady g c = 
+returns-in-None-clause-steady g c =
     let took = c.in-None.ensures in
     steady_kept g.O.Objects g.O.Reader.ObjectRead g.O.Writer.ObjectWrite (pred c.args.actor) took.rest took.workers took.same
 
