@@ -46,7 +46,7 @@ use Rattle.cluster_core.proofs.NodeChanges.{changes_by, workers_change, setup_st
 use Rattle.cluster_core.proofs.RoomChanges.{KeepsRooms, rooms_leave, other_room}
 use Rattle.cluster_core.specs.Reserved.{room_in}
 use Rattle.cluster_core.proofs.KeptHands.{stands_kept, kept_twice}
-use Rattle.cluster_core.proofs.RunsHere.{runs_is, runs_there}
+use Rattle.cluster_core.proofs.HereIs.{runs_is, runs_there}
 use Rattle.cluster_core.proofs.Frames.{known_all, nodes_change, copy_moves}
 use Rattle.cluster_core.proofs.NodeRows.{row_freed}
 use Rattle.cluster_core.proofs.Labelled.{fits_at, absent_at, end_there, hands_ended, leaves_all}
@@ -188,9 +188,9 @@ module _ {S R W : Type 0} (o : objects.Ghosts S R W) (r : reads.Ghosts R) (w : w
         → (x.room ≡ None → new.workers ≡ old.workers) → Goes o r w U old new V (suc i) (Event.Close l) Reply.Done
     by_room m None is at fits freed stopped none = close_kept m at (λ W. open_freed V.body m m.block W ∙ ap (λ q. freed_by V.body m q W) (fits.room ∙ is)) (none is)
     by_room m (Some n) is at fits freed stopped none =
-        let frees : (W : Worker) → free_open V.body m m.block W ≡ cond (runs_here old.workers.items x.worker x.started) (without_room n W) W = λ W. open_freed V.body m m.block W ∙ ap (λ q. freed_by V.body m q W) (fits.room ∙ is) ∙ ap (λ b. cond b (without_room n W) W) (runs_is V.body old.workers.items s.workers m.worker m.start ∙ ap₂ (runs_here old.workers.items) fits.worker fits.start) in
+        let frees : (W : Worker) → free_open V.body m m.block W ≡ cond (runs_here old.workers.items x.worker x.started) (without_room n W) W = λ W. open_freed V.body m m.block W ∙ ap (λ q. freed_by V.body m q W) (fits.room ∙ is) ∙ ap (λ b. cond b (without_room n W) W) (runs_is old.workers.items V.body s.workers m.worker m.start ∙ ap₂ (runs_here old.workers.items) fits.worker fits.start) in
         elim (runs_here old.workers.items x.worker x.started) as (λ b. runs_here old.workers.items x.worker x.started ≡ b → Goes o r w U old new V (suc i) (Event.Close l) Reply.Done) [
-          | true ↦ λ runs. close_freed m n at fits.worker (runs_there V.body old.workers.items s.workers x.worker x.started runs) (subst (λ q. IfSome q (λ k. (s.known.owner x.worker k ≡ Some (suc i, l)) × HasRoomOf old.workers.items x.worker x.started k old.block)) is fits.reserved).0 (λ W. frees W ∙ ap (λ b. cond b (without_room n W) W) runs) (freed n is runs)
+          | true ↦ λ runs. close_freed m n at fits.worker (runs_there old.workers.items x.worker x.started runs) (subst (λ q. IfSome q (λ k. (s.known.owner x.worker k ≡ Some (suc i, l)) × HasRoomOf old.workers.items x.worker x.started k old.block)) is fits.reserved).0 (λ W. frees W ∙ ap (λ b. cond b (without_room n W) W) runs) (freed n is runs)
           | false ↦ λ stops. close_kept m at (λ W. frees W ∙ ap (λ b. cond b (without_room n W) W) stops) (stopped n is stops)
         ] refl
 

@@ -1,7 +1,6 @@
 -- A new file with its writer as a step of the file machine.
 use Rattle.std.proofs.Common.{◌≡◌, ℕ, suc, pred, ◌+◌, ◌*◌, ◌<◌, ◌≤◌, true, false, cond, List, [], length, get_or, nat_eq, Option, Some, None, is_some, option_map, inl, refl, sym, ap, ◌∙◌, subst, arith}
 use Rattle.std.specs.Prelude.{IsSomeAnd, slice_get, option_and_then, unwrap_or}
-use Rattle.std.proofs.lemmas.List.{set-get_or}
 use Rattle.std.proofs.lemmas.Bool.{eqb-true}
 use Rattle.std.proofs.Math.Nat.{zero-div}
 use Rattle.fs_model.specs.Spelled.{is_actor}
@@ -48,12 +47,11 @@ use Rattle.cluster_core.proofs.NamesSteps.{create_refusal, create_stands}
 use Rattle.cluster_core.proofs.NamesGo.{file_anywhere}
 use Rattle.cluster_core.proofs.Rows.{all_put}
 use Rattle.cluster_core.proofs.Standing.{stands_by, goes_refused, goes_short}
-use Rattle.cluster_core.proofs.LabelLaws.{matches_kept}
-use Rattle.cluster_core.proofs.Actors.{hands_change}
-use Rattle.cluster_core.proofs.Labelled.{absent_at, hands_added, leaves_all, there_at}
+use Rattle.cluster_core.proofs.Labelled.{absent_at, hands_added, there_at}
 use Rattle.cluster_core.proofs.Frames.{KnownOn, DoneOn, nodes_stay, files_stay}
 use Rattle.cluster_core.proofs.CloseGo.{by_actor}
 use Rattle.cluster_core.proofs.HereIs.{configured_is, live_is, started_is}
+use Rattle.cluster_core.proofs.KeptHands.{hands_kept}
 
 -- ---- labels
 
@@ -85,11 +83,6 @@ module _ {S R W : Type 0} (r : reads.Ghosts R) (w : writes.Ghosts W) (K : Knowle
 
   pub labels_is : length (get_or all i []) ≡ count_here labels (suc i)
   labels_is = counted_by (get_or all i []) (slice_get labels i) (was.each i within)
-
-  -- no label changes
-  pub hands_kept : (changed : List (LabelsView (Hand R W))) → ChangesAt labels changed i KeepsHands → HandsStand r w K nodes next bs all changed
-  hands_kept changed change = subst (λ hs. HandsStand r w K nodes next bs hs changed) (set-get_or all i [])
-      (hands_change r w K K nodes nodes next next bs i [] (leaves_all (suc i, []) K nodes next) all labels changed KeepsHands was within change (get_or all i []) (λ s u m c. matches_kept u m c (λ l h t f. f)))
 
 -- ---- what is known of a new file
 
@@ -221,7 +214,7 @@ module _ {S R W : Type 0} (o : objects.Ghosts S R W) (r : reads.Ghosts R) (w : w
       setup = s.setup;
       named = s.names;
       workers = s.workers;
-      hands = hands_kept r w s.known old.workers.items old.names.next_id old.block V.hands old.hands.items s.hands i within new.hands.items kept;
+      hands = hands_kept r w s.known old.workers.items old.names.next_id old.block i V.hands old.hands.items new.hands.items s.hands within kept;
       files = s.files;
       objects = s.objects;
     })) refl

@@ -1,8 +1,7 @@
 -- What the core knows of its workers is what the file machine says of them.
-use Rattle.std.proofs.Common.{◌≡◌, ℕ, zero, suc, pred, Bool, true, false, ◌&&◌, List, length, map, get_or, nat_eq, nat_lt, nat_le, Option, Some, None, option_map, unwrap_or, refl, sym, ap, ◌∙◌, arith}
+use Rattle.std.proofs.Common.{◌≡◌, ℕ, zero, suc, pred, Bool, true, false, ◌&&◌, List, length, get_or, nat_eq, nat_lt, nat_le, Option, Some, None, option_map, unwrap_or, refl, sym, ap, ◌∙◌, arith}
 use Rattle.std.specs.Prelude.{slice_get}
 use Rattle.std.proofs.lemmas.List.{length-map}
-use Rattle.std.proofs.lemmas.Option.{unwrap_or-slice_get, slice_get-map}
 use Rattle.fs_model.specs.declared.setup.Setup.{Setup}
 use Rattle.fs_model.specs.State.{State, Worker, Registration}
 use Rattle.fs_model.specs.Lookups.{no_worker, unregistered, worker, registration, is_configured, is_live, runs_since}
@@ -10,15 +9,12 @@ use Rattle.cluster_core.specs.declared.node.Node.{Node}
 use Rattle.cluster_core.specs.Nodes.{node_row, registration_of}
 use Rattle.cluster_core.specs.Here.{by_node, configured_here, live_here, runs_here, started_here}
 use Rattle.cluster_core.specs.Stands.{WorkersStand, SetupFits, sizes_of}
+use Rattle.cluster_core.proofs.NodeChanges.{g_at}
 use Rattle.cluster_core.proofs.RoomChanges.{at_suc}
 
 -- 0 is less than what is behind another number
 some_less : (v : ℕ) → nat_lt 0 (suc v) ≡ true
 some_less v = grind arith
-
--- g of the element at a place
-g_at : {X Y : Type 0} (g : X → Y) (d : Y) (xs : List X) (j : ℕ) → get_or (map g xs) j d ≡ unwrap_or (option_map g (slice_get xs j)) d
-g_at g d xs j = sym (unwrap_or-slice_get (map g xs) j d) ∙ ap (λ o. unwrap_or o d) (slice_get-map g xs j)
 
 module _ {S : Type 0} (nodes : List (Node S)) where
   -- the same numbers are configured
@@ -27,7 +23,7 @@ module _ {S : Type 0} (nodes : List (Node S)) where
 
   module _ (A : State) (s : WorkersStand nodes A) where
     -- what a state has of the worker at a place
-    worker_is : (w : ℕ) → worker A w ≡ unwrap_or (option_map node_row (slice_get nodes (pred w))) no_worker
+    pub worker_is : (w : ℕ) → worker A w ≡ unwrap_or (option_map node_row (slice_get nodes (pred w))) no_worker
     worker_is w = ap (λ ws. get_or ws (pred w) no_worker) s.rows ∙ g_at node_row no_worker nodes (pred w)
 
     registration_is : (w : ℕ) → registration A w ≡ unwrap_or (option_map registration_of (slice_get nodes (pred w))) unregistered
@@ -74,3 +70,8 @@ module _ {S : Type 0} (nodes : List (Node S)) where
         ∙ ap (λ (k : Worker). k.running && nat_eq k.start started) (worker_is (suc v))
         ∙ runs_by started (slice_get nodes v)
         ∙ sym (ap (by_node (λ n. n.running && nat_eq n.started started)) (at_suc nodes v))
+
+  -- a worker that runs since a start has a number
+  pub runs_there : (w started : ℕ) → runs_here nodes w started ≡ true → w ≡ 0 → ⊥
+  runs_there zero started runs none = cc
+  runs_there (suc v) started runs none = absurd (let k : suc v ≡ 0 = none in omega (arith, k))

@@ -15,7 +15,6 @@ pub mod NodeChanges
 pub mod Frames
 pub mod RoomChanges
 pub mod CloseGo
-pub mod RunsHere
 pub mod NodeRows
 pub mod KeptHands
 pub mod Objects

@@ -1,5 +1,5 @@
 -- The live workers and the live copies of a block are those that the core has.
-use Rattle.std.proofs.Common.{◌≡◌, ℕ, zero, suc, ◌+◌, ◌<◌, Bool, true, false, not, ◌&&◌, cond, List, [], ◌∷◌, map, length, filter, find, get_or, nat_lt, Option, Some, None, option_map, is_some, unwrap_or, refl, sym, ap, ◌∙◌, arith}
+use Rattle.std.proofs.Common.{◌≡◌, ℕ, zero, suc, ◌+◌, ◌<◌, Bool, true, false, not, ◌&&◌, cond, List, [], ◌∷◌, map, length, filter, find, Option, Some, None, option_map, is_some, unwrap_or, refl, sym, ap, ◌∙◌, arith}
 use Rattle.std.specs.Prelude.{slice_get, filter_map}
 use Rattle.std.specs.List.{list_any, range_with_len, enumerate_from}
 use Rattle.std.proofs.lemmas.Bool.{and_parts}
@@ -7,23 +7,15 @@ use Rattle.std.proofs.lemmas.List.{length-map}
 use Rattle.fs_model.specs.declared.setup.Setup.{Setup}
 use Rattle.fs_model.specs.Words.{block_count}
 use Rattle.fs_model.specs.State.{State, File, Worker, Registration, Copied}
-use Rattle.fs_model.specs.Lookups.{no_worker, unregistered, is_running, is_live, live_workers, lacking, lacks_some, awaited, registration, worker, copy_of, is_empty}
+use Rattle.fs_model.specs.Lookups.{no_worker, is_running, is_live, live_workers, lacking, lacks_some, awaited, registration, worker, copy_of, is_empty}
 use Rattle.tier_book.specs.Rows.{row_of}
 use Rattle.cluster_core.specs.declared.node.Node.{Node}
 use Rattle.cluster_core.specs.Nodes.{node_row, registration_of}
-use Rattle.cluster_core.specs.Here.{by_node, live_here}
+use Rattle.cluster_core.specs.Here.{by_node}
 use Rattle.cluster_core.specs.Shown.{first_runs, first_has, lacks_here}
 use Rattle.cluster_core.specs.Stands.{WorkersStand}
-use Rattle.cluster_core.proofs.NodeChanges.{g_at}
+use Rattle.cluster_core.proofs.HereIs.{live_is, worker_is}
 use Rattle.cluster_core.proofs.RoomChanges.{at_suc}
-use Rattle.cluster_core.proofs.RunsHere.{worker_row}
-
-positive : (v : ℕ) → nat_lt 0 (suc v) ≡ true
-positive v = grind arith
-
-itself : (b : Bool) → (b && b) ≡ b
-itself true = refl
-itself false = refl
 
 -- these workers with their copies of a block
 abbrev copies_by : (ℕ → Option Copied) → List ℕ → List (ℕ × Copied)
@@ -36,22 +28,6 @@ none_awaited k (n ∷ nodes) = none_awaited (k + 1) nodes
 
 module _ {S : Type 0} (A : State) (nodes : List (Node S)) (s : WorkersStand nodes A) where
   -- ---- live workers
-
-  registration_row : (v : ℕ) → registration A (suc v) ≡ unwrap_or (option_map registration_of (slice_get nodes v)) unregistered
-  registration_row v = ap (λ rs. get_or rs v unregistered) s.registrations ∙ g_at registration_of unregistered nodes v
-
-  of_option : (x : Option (Node S)) → ((unwrap_or (option_map node_row x) no_worker).running && (unwrap_or (option_map registration_of x) unregistered).known) ≡ by_node (λ n. n.running) x
-  of_option None = refl
-  of_option (Some n) = itself n.running
-
-  -- a worker is live where it is so in the state
-  pub live_is : (w : ℕ) → is_live A w ≡ live_here nodes w
-  live_is zero = refl
-  live_is (suc v) =
-      ap (λ b. (b && (worker A (suc v)).running) && (registration A (suc v)).known) (positive v)
-      ∙ (λ i. (worker_row A nodes s v i).running && (registration_row v i).known)
-      ∙ of_option (slice_get nodes v)
-      ∙ sym (ap (by_node (λ n. n.running)) (at_suc nodes v))
 
   not_live : (w : ℕ) → 1 < w → is_live A w ≡ false
   not_live w more = elim (is_live A w) as (λ b. is_live A w ≡ b → b ≡ false) [
@@ -66,7 +42,7 @@ module _ {S : Type 0} (A : State) (nodes : List (Node S)) (s : WorkersStand node
       ∙ none_live (a + 1) m (omega (arith, more))
 
   first_is : (rest : List ℕ) → cond (is_live A 1) (1 ∷ rest) rest ≡ cond (first_runs nodes) (1 ∷ rest) rest
-  first_is rest = ap (λ b. cond b (1 ∷ rest) rest) (live_is 1 ∙ ap (by_node (λ n. n.running)) (at_suc nodes 0))
+  first_is rest = ap (λ b. cond b (1 ∷ rest) rest) (live_is nodes A s 1 ∙ ap (by_node (λ n. n.running)) (at_suc nodes 0))
 
   live_of : (k : ℕ) → (k ≡ 0 → first_runs nodes ≡ false) → filter (is_live A) (range_with_len 1 k) ≡ cond (first_runs nodes) (1 ∷ []) []
   live_of zero none = sym (ap (λ b. cond b (1 ∷ []) []) (none refl))
@@ -88,7 +64,7 @@ module _ {S : Type 0} (A : State) (nodes : List (Node S)) (s : WorkersStand node
 
   -- the copy of a block at the first worker
   copy_here : (f i : ℕ) → copy_of (worker A 1) f i ≡ copy_of (unwrap_or (option_map node_row (slice_get nodes 0)) no_worker) f i
-  copy_here f i = ap (λ (k : Worker). copy_of k f i) (worker_row A nodes s 0)
+  copy_here f i = ap (λ (k : Worker). copy_of k f i) (worker_is nodes A s 1)
 
   alone : (x : Option Copied) → is_empty (copies_by (λ w. x) (1 ∷ [])) ≡ not (is_some x)
   alone None = refl

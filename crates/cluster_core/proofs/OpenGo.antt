@@ -2,7 +2,7 @@
 use Rattle.std.proofs.Common.{◌≡◌, ℕ, suc, pred, ◌+◌, ◌-◌, ◌*◌, ◌/◌, ◌<◌, ◌≤◌, true, false, cond, not, ◌&&◌, List, [], ◌∷◌, length, get_or, nat_eq, nat_le, nat_lt, Option, Some, None, is_some, is_none, option_map, unwrap_or, inl, inr, refl, sym, ap, ◌∙◌, subst, arith}
 use Rattle.std.specs.Prelude.{IsSomeAnd, slice_get}
 use Rattle.std.specs.Option.{option_and_then}
-use Rattle.std.proofs.lemmas.List.{set-get_or, length-map}
+use Rattle.std.proofs.lemmas.List.{length-map}
 use Rattle.std.proofs.lemmas.Nat.{le-div, div_below}
 use Rattle.std.proofs.lemmas.Bool.{cases_lt, lt-ltb, le-ltb}
 use Rattle.fs_model.specs.declared.setup.Setup.{Setup}
@@ -45,11 +45,10 @@ use Rattle.cluster_core.specs.Goes.{Steps, Rises, no_rise}
 use Rattle.cluster_core.specs.declared.cluster.Core.{Core}
 use Rattle.cluster_core.specs.declared.hand.Hand.{Hand}
 use Rattle.cluster_core.specs.declared.node.Node.{Node}
+use Rattle.cluster_core.proofs.KeptHands.{hands_kept}
 use Rattle.cluster_core.proofs.NamesSteps.{behind}
 use Rattle.cluster_core.proofs.NamesGo.{file_anywhere}
 use Rattle.cluster_core.proofs.Rows.{node_of_all}
-use Rattle.cluster_core.proofs.LabelLaws.{matches_kept}
-use Rattle.cluster_core.proofs.Actors.{hands_change}
 use Rattle.cluster_core.proofs.Standing.{stands_by, goes_refused, goes_short}
 use Rattle.cluster_core.proofs.Labelled.{hands_added, absent_at, leaves_all}
 use Rattle.cluster_core.proofs.CloseGo.{by_actor}
@@ -110,11 +109,6 @@ module _ {S R W : Type 0} (r : reads.Ghosts R) (w : writes.Ghosts W) (K : Knowle
   counted_here =
       let at = known_there (Matches (λ m. HandFits r w K nodes next bs (suc i, m)) (get_or all i [])) (slice_get labels i) (was.each i within) in
       at.2.counts ∙ sym (ap (λ x. unwrap_or (option_map (λ s. count s) x) 0) at.1)
-
--- no label changes, as after `reserve`
-pub hands_kept : {S R W : Type 0} (r : reads.Ghosts R) (w : writes.Ghosts W) (K : Knowledge) (nodes : List (Node S)) (next bs i : ℕ) (l : List ℕ) (all : List Hands) (labels changed : List (LabelsView (Hand R W))) → HandsStand r w K nodes next bs all labels → i < 64 → ChangesAt labels changed i KeepsHands → HandsStand r w K nodes next bs all changed
-hands_kept r w K nodes next bs i l all labels changed was within kept =
-    subst (λ hs. HandsStand r w K nodes next bs hs changed) (set-get_or all i []) (hands_change r w K K nodes nodes next next bs i l (leaves_all (suc i, l) K nodes next) all labels changed KeepsHands was within kept (get_or all i []) (λ s u m k. matches_kept u m k (λ n h t f. f)))
 
 -- the file at a path is found there
 file_row_there : (x : Option machineNode) (f : File) → option_and_then file_in x ≡ Some f → x ≡ Some (machineNode.IsFile f)
@@ -199,7 +193,7 @@ module _ {S R W : Type 0} (o : objects.Ghosts S R W) (r : reads.Ghosts R) (w : w
     setup = s.setup;
     named = s.names;
     workers = s.workers;
-    hands = hands_kept r w s.known old.workers.items old.names.next_id old.block i l V.hands old.hands.items new.hands.items s.hands within hands;
+    hands = hands_kept r w s.known old.workers.items old.names.next_id old.block i V.hands old.hands.items new.hands.items s.hands within hands;
     files = s.files;
     objects = s.objects;
   })) refl

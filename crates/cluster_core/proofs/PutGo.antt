@@ -1,6 +1,6 @@
 -- Bytes into the file of a writer as a step of the file machine.
-use Rattle.std.proofs.Common.{◌≡◌, ℕ, zero, suc, pred, ◌+◌, ◌*◌, ◌<◌, ◌≤◌, min, Bool, true, false, not, ◌&&◌, ◌||◌, cond, List, ◌++◌, length, take, map, get_or, nat_eq, nat_lt, Option, Some, None, is_some, option_map, inl, inr, refl, sym, ap, ◌∙◌, subst, arith}
-use Rattle.std.specs.Prelude.{⊤, IsSomeAnd, IfSome, slice_get, option_and_then, ◌⊎◌}
+use Rattle.std.proofs.Common.{◌≡◌, ℕ, suc, pred, ◌+◌, ◌*◌, ◌<◌, ◌≤◌, min, Bool, true, false, not, ◌&&◌, ◌||◌, cond, List, ◌++◌, length, take, map, nat_eq, Option, Some, None, is_some, option_map, inl, inr, refl, sym, ap, ◌∙◌, subst, arith}
+use Rattle.std.specs.Prelude.{IsSomeAnd, IfSome, slice_get, option_and_then, ◌⊎◌}
 use Rattle.std.specs.List.{range_with_len}
 use Rattle.std.proofs.lemmas.List.{length-take, length-append}
 use Rattle.std.proofs.lemmas.List.FromFn.{take-map-range_with_len, length-map-range_with_len}
@@ -38,7 +38,7 @@ use Rattle.cluster_core.specs.Knowledge.{Knowledge, Holder, HasRoomOf, Leaves, w
 use Rattle.cluster_core.specs.Kept.{KeepsRest}
 use Rattle.cluster_core.specs.Putting.{Took, Broke, SameWriter, DidPiece, DidPut, DidIn, ObjectRose, lacking, missing, put_reply}
 use Rattle.cluster_core.specs.Stands.{Stands, FilesStand}
-use Rattle.cluster_core.specs.Goes.{Goes, Steps, Rises, AtLabel, HandRose, no_rise, tier_rise, one_at}
+use Rattle.cluster_core.specs.Goes.{Goes, Steps, Rises, AtLabel, HandRose, no_rise, tier_rise}
 use Rattle.cluster_core.specs.declared.cluster.Core.{Core}
 use Rattle.cluster_core.specs.declared.hand.Hand.{Hand}
 use Rattle.cluster_core.specs.declared.hand.Writer.{Writer}
@@ -49,7 +49,9 @@ use Rattle.cluster_core.proofs.Standing.{put_same, stands_by, goes_refused, goes
 use Rattle.cluster_core.proofs.Labelled.{fits_at, absent_at, set_there, sets_hand, hands_set, leaves_all}
 use Rattle.cluster_core.proofs.Frames.{KnownOn, DoneOn, nodes_stay, files_stay}
 use Rattle.cluster_core.proofs.NodeChanges.{changes_by}
-use Rattle.cluster_core.proofs.CreateGo.{hands_kept}
+use Rattle.cluster_core.proofs.KeptHands.{hands_kept}
+use Rattle.cluster_core.proofs.RoomTests.{wanted_by}
+use Rattle.cluster_core.proofs.StreamsGo.{tier_rose}
 use Rattle.cluster_core.proofs.CloseGo.{by_actor}
 
 -- ---- made bytes
@@ -136,12 +138,6 @@ module _ (K : Knowledge) (id next : ℕ) (a : Holder) (bytes more : List ℕ) (m
 -- ---- open blocks on both sides
 
 module _ {W : Type 0} (w : writes.Ghosts W) where
-  -- a new block is wanted on both sides or on neither
-  wanted_by : (k : ℕ) (n : Option ℕ) (b : Option (Block W)) → (n ≡ None → block_wanted k (open_block b) ≡ true) → block_wanted k (open_of n b) ≡ block_wanted k (open_block b)
-  wanted_by k None b h = sym (h refl)
-  wanted_by k (Some n) None h = refl
-  wanted_by k (Some n) (Some b) h = refl
-
   -- where none is wanted, the open one lacks as much and has a reservation
   lacks_by : (k : ℕ) (n : Option ℕ) (b : Option (Block W)) → block_wanted k (open_block b) ≡ false → (n ≡ None → block_wanted k (open_block b) ≡ true) → lacks k (open_of n b) ≡ lacks k (open_block b)
   lacks_by k None b wanted h = absurd (let t = h refl in cc)
@@ -182,7 +178,7 @@ module _ {S W : Type 0} (w : writes.Ghosts W) (K : Knowledge) (nodes : List (Nod
   wanted_is : x.broken ≡ false → block_wanted m.bs m.block ≡ wants_room x.bytes
   wanted_is whole =
       let on = fits.on whole in
-      ap (λ k. block_wanted k m.block) (fits.bs ∙ sym fits.blocks) ∙ ap (block_wanted x.bytes.bs) on.block ∙ wanted_by w x.bytes.bs x.room x.bytes.block on.wants
+      ap (λ k. block_wanted k m.block) (fits.bs ∙ sym fits.blocks) ∙ ap (block_wanted x.bytes.bs) on.block ∙ wanted_by x.bytes.bs x.room x.bytes.block on.wants
 
   lacks_is : x.broken ≡ false → wants_room x.bytes ≡ false → lacks m.bs m.block ≡ lacking x.bytes
   lacks_is whole wanted =
@@ -256,15 +252,7 @@ module _ {S W : Type 0} (w : writes.Ghosts W) (K : Knowledge) (nodes : List (Nod
     author = fits.author;
   }
 
--- ---- counts that rose
-
--- 1 is at its place
-one_there : (n : ℕ) → get_or (one_at n) n 0 ≡ 1
-one_there zero = refl
-one_there (suc n) = one_there n
-
-tier_rose : (v : ℕ) → rose (tier_rise v) (Device.TiersOf v) ≡ true
-tier_rose v = ap (nat_lt 0) (one_there (pred v))
+-- ---- the worker of an open block
 
 -- the worker of an open block with a reservation is called
 calls_true : (a b c d : Bool) → a ≡ false → b ≡ true → c ≡ true → not a && ((b && c) || d) ≡ true
@@ -334,7 +322,7 @@ module _ {S R W : Type 0} (o : objects.Ghosts S R W) (r : reads.Ghosts R) (w : w
     setup = s.setup;
     named = s.names;
     workers = s.workers;
-    hands = hands_kept r w s.known old.workers.items old.names.next_id old.block V.hands old.hands.items s.hands i within new.hands.items kept;
+    hands = hands_kept r w s.known old.workers.items old.names.next_id old.block i V.hands old.hands.items new.hands.items s.hands within kept;
     files = s.files;
     objects = s.objects;
   })

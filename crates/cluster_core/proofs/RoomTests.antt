@@ -49,7 +49,8 @@ file_gone names A id s = found_file id A.names.nodes ∙ ap (λ rows. is_none (f
 
 -- ---- the open block
 
-wanted_by : {W : Type 0} (k : ℕ) (n : Option ℕ) (b : Option (Block W)) → (n ≡ None → block_wanted k (open_block b) ≡ true) → block_wanted k (open_of n b) ≡ block_wanted k (open_block b)
+-- a new block is wanted on both sides or on neither
+pub wanted_by : {W : Type 0} (k : ℕ) (n : Option ℕ) (b : Option (Block W)) → (n ≡ None → block_wanted k (open_block b) ≡ true) → block_wanted k (open_of n b) ≡ block_wanted k (open_block b)
 wanted_by k None b h = sym (h refl)
 wanted_by k (Some n) None h = refl
 wanted_by k (Some n) (Some b) h = refl

@@ -32,7 +32,7 @@ use Rattle.cluster_core.proofs.SameLabels.{alike, like_itself}
 use Rattle.cluster_core.proofs.NodeChanges.{changes_by}
 use Rattle.cluster_core.proofs.Standing.{stands_by}
 use Rattle.cluster_core.proofs.Labelled.{hands_set, leaves_all}
-use Rattle.cluster_core.proofs.OpenGo.{hands_kept}
+use Rattle.cluster_core.proofs.KeptHands.{hands_kept}
 
 -- ---- the label's hand
 
@@ -68,7 +68,7 @@ module _ {S R W : Type 0} (o : objects.Ghosts S R W) (r : reads.Ghosts R) (w : w
     setup = s.setup;
     named = s.names;
     workers = s.workers;
-    hands = hands_kept r w s.known old.workers.items old.names.next_id old.block i l V.hands old.hands.items new.hands.items s.hands within hands;
+    hands = hands_kept r w s.known old.workers.items old.names.next_id old.block i V.hands old.hands.items new.hands.items s.hands within hands;
     files = s.files;
     objects = s.objects;
   })
