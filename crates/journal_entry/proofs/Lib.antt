@@ -1,0 +1,5 @@
+pub mod Rising
+pub mod Parts
+pub mod FieldLaws
+pub mod KindLaws
+pub mod TextLaws

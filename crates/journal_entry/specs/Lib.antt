@@ -1,0 +1,5 @@
+pub mod Fields
+pub mod EntryText
+pub mod Reading
+pub mod Lengths
+pub mod Meaning
