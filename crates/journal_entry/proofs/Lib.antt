@@ -3,3 +3,5 @@ pub mod Parts
 pub mod FieldLaws
 pub mod KindLaws
 pub mod TextLaws
+pub mod KeyParts
+pub mod BodyLengths

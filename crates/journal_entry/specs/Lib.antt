@@ -3,3 +3,4 @@ pub mod EntryText
 pub mod Reading
 pub mod Lengths
 pub mod Meaning
+pub mod Laws

@@ -1,10 +1,11 @@
 //! Which numbers an entry may have.
 
 ghost use Rattle.std.specs.Prelude.{◌≡◌};
-ghost use Rattle.journal_entry.specs.Fields.{is_file_id, is_plan, is_plan_or_none, is_plan_of, is_next, is_worker, is_no, is_move, is_root};
+ghost use Rattle.journal_entry.specs.Fields.{is_file_id, is_plan, is_plan_or_none, is_plan_of, is_next, is_worker, are_above, are_workers, is_no, is_move, is_root};
 ghost use Rattle.journal_entry.specs.EntryText.{is_node};
 
 use fs_model::change::PlanKind;
+use fs_model::numbers::WorkerNo;
 use fs_model::path::Path;
 use fs_model::reply::Stored;
 
@@ -91,4 +92,21 @@ pub fn is_node(dir: bool, id: u64, len: u64, done: bool, stored: Stored, pinned:
         return id == 0 && len == 0 && done && is_no(stored) && !pinned;
     }
     is_file_id(id) && (done || (len == 0 && is_no(stored)))
+}
+
+/// Whether workers are at most 64, each above the one before and above this number.
+fn are_above(last: u32, workers: &[WorkerNo]) -> bool
+    ensures { result ≡ are_above last workers.now }
+{
+    match workers {
+        [] => true,
+        [worker, rest @ ..] => last < worker.0 && worker.0 <= 64 && are_above(worker.0, rest),
+    }
+}
+
+/// Whether these are 1 to 64 workers, rising.
+pub fn are_workers(workers: &[WorkerNo]) -> bool
+    ensures { result ≡ are_workers workers.now }
+{
+    !workers.is_empty() && workers.len() <= 64 && are_above(0, workers)
 }

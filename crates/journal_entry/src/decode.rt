@@ -5,14 +5,11 @@ ghost use Rattle.journal_entry.specs.declared.entry.Entry.{Entry};
 ghost use Rattle.journal_entry.specs.EntryText.{IsEntryText, entry_text, is_entry};
 ghost use Rattle.journal_entry.specs.Reading.{Gives, entry_at};
 
-use crate::entry::Entry;
+use crate::entry::{Entry, MOST_BODY};
 use crate::fault::Fault;
 use crate::field::{part_at, u32_at};
 use crate::kind::entry_of;
 use std::alloc::{AllocError, Global};
-
-/// The greatest length of an entry's body in bytes.
-const MOST_BODY: u32 = 8248;
 
 /// The entry whose text is at the front, and how many bytes that takes.
 #[tactic(auto, unfolding(crate::specs::Reading::entry_at))]

@@ -1,7 +1,11 @@
 //! What stands in the journal.
 
-ghost use Rattle.std.specs.Prelude.{◌≡◌, true};
+ghost use Rattle.std.specs.Prelude.{◌≡◌};
 
+use crate::bounds::{
+    are_workers, is_file_id, is_move, is_next, is_node, is_plan, is_plan_of, is_plan_or_none,
+    is_root, is_worker,
+};
 use fs_model::change::PlanKind;
 use fs_model::items::Items;
 use fs_model::numbers::{FileId, PlanNo, StoreNo, WorkerNo};
@@ -111,6 +115,96 @@ pub enum Entry {
         plan: PlanNo,
         path: Path,
     },
+}
+
+/// The greatest length of an entry's body in bytes.
+pub const MOST_BODY: u32 = 8248;
+
+impl Entry {
+    ghost use Rattle.std.specs.Prelude.{◌≡◌, ◌≤◌, true, length};
+    ghost use Rattle.journal_entry.specs.EntryText.{has_bounds, fits, entry_text};
+    ghost use Rattle.journal_entry.specs.Lengths.{body_len};
+
+    /// Whether the numbers and flags are within the bounds of the format.
+    fn has_bounds(&self) -> bool
+        ensures { result ≡ has_bounds self.now }
+    {
+        match self {
+            Entry::Mkdir { .. } | Entry::Pin { .. } | Entry::Unmount { .. } => true,
+            Entry::Create { id, .. } => is_file_id(id.0),
+            Entry::Done {
+                id,
+                stored,
+                plan,
+                ..
+            } => is_file_id(id.0) && is_plan_of(*stored, plan.0),
+            Entry::Remove { plan, .. } => is_plan_or_none(plan.0),
+            Entry::Move { plan, .. } => is_plan_or_none(plan.0),
+            Entry::Want { id } => is_file_id(id.0),
+            Entry::PlanEnd { plan } => is_plan_or_none(plan.0),
+            Entry::Persisted { id, plan } => is_file_id(id.0) && is_plan(plan.0),
+            Entry::Mount { plan, .. } => is_plan_or_none(plan.0),
+            Entry::Seen { worker } => is_worker(worker.0),
+            Entry::Lost { workers } => are_workers(workers.as_slice()),
+            Entry::Loaded { id, .. } => is_file_id(id.0),
+            Entry::Next { id, plan } => is_next(id.0) && is_next(plan.0),
+            Entry::Node {
+                dir,
+                id,
+                len,
+                done,
+                stored,
+                pinned,
+                ..
+            } => is_node(*dir, id.0, *len, *done, *stored, *pinned),
+            Entry::Pending { plan, kind, to, .. } => {
+                is_plan(plan.0) && (is_move(*kind) || is_root(to))
+            }
+            Entry::Leaf { plan, .. } => is_plan(plan.0),
+        }
+    }
+
+    /// The length of the body in bytes: the kind byte and the fields. The numbers are within the bounds of the
+    /// format.
+    pub(crate) fn body_len(&self) -> u64
+        requires { has_bounds self.now ≡ true }
+        ensures { result ≡ body_len self.now }
+    {
+        match self {
+            Entry::Mkdir { path } | Entry::Unmount { path } => 3 + path.text_len(),
+            Entry::Create { path, .. } => 11 + path.text_len(),
+            Entry::Done { .. } => 26,
+            Entry::Remove { path, .. } => 11 + path.text_len(),
+            Entry::Move { path, to, .. } => 13 + path.text_len() + to.text_len(),
+            Entry::Pin { path, .. } => 4 + path.text_len(),
+            Entry::Want { .. } | Entry::PlanEnd { .. } => 9,
+            Entry::Persisted { .. } | Entry::Next { .. } => 17,
+            Entry::Mount { path, key, .. } => 17 + path.text_len() + key.text_len(),
+            Entry::Seen { .. } => 5,
+            Entry::Lost { workers } => 3 + 4 * workers.as_slice().len() as u64,
+            Entry::Loaded { path, .. } => 19 + path.text_len(),
+            Entry::Node { path, .. } => 23 + path.text_len(),
+            Entry::Pending { path, to, .. } => 14 + path.text_len() + to.text_len(),
+            Entry::Leaf { path, .. } => 11 + path.text_len(),
+        }
+    }
+
+    /// Whether the entry has a text: its numbers and flags are within the bounds of the format, and its body has at
+    /// most 8,248 bytes. Only a mount with a long path and a long key has a longer one.
+    pub fn fits(&self) -> bool
+        ensures { result ≡ fits self.now }
+    {
+        self.has_bounds() && self.body_len() <= MOST_BODY as u64
+    }
+
+    /// The length of the text in bytes, at most 8,252, of an entry that fits.
+    pub fn text_len(&self) -> u64
+        requires { fits self.now ≡ true }
+        ensures len { result ≡ length (entry_text self.now) }
+        ensures short { result ≤ 8252 }
+    {
+        4 + self.body_len()
+    }
 }
 
 /// Entries in order. A contract sees them as a list.

@@ -3,8 +3,11 @@
 
 mod bounds;
 pub mod decode;
+pub mod encode;
 pub mod entry;
 mod fault;
 mod field;
 mod kind;
+pub mod laws;
+mod put;
 mod workers;
