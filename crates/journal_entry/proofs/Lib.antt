@@ -5,3 +5,4 @@ pub mod KindLaws
 pub mod TextLaws
 pub mod KeyParts
 pub mod BodyLengths
+pub mod CheckpointLengths

@@ -4,3 +4,4 @@ pub mod Reading
 pub mod Lengths
 pub mod Meaning
 pub mod Laws
+pub mod Examples
