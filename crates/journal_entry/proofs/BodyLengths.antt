@@ -1,14 +1,13 @@
 -- The body of an entry is as long as the machine counts it.
-use Rattle.std.proofs.Common.{◌≡◌, ℕ, zero, suc, ◌+◌, ◌*◌, ◌≤◌, Bool, true, leb, ◌&&◌, List, [], ◌∷◌, ◌++◌, length, refl, sym, ap, ◌∙◌, append_assoc, arith, length-append}
+use Rattle.std.proofs.Common.{◌≡◌, ℕ, suc, ◌+◌, ◌*◌, ◌≤◌, true, leb, ◌&&◌, List, [], ◌∷◌, ◌++◌, length, refl, sym, ap, ◌∙◌, append_assoc, arith, length-append}
 use Rattle.std.specs.List.{flat_map}
 use Rattle.std.proofs.lemmas.Bool.{leb-true}
-use Rattle.fs_model.specs.PathForm.{path_text, key_text}
 use Rattle.fs_model.specs.PathLength.{path_len}
 use Rattle.fs_model.specs.Changes.{key_len, entry_len}
 use Rattle.fs_model.specs.declared.change.Change.{Change}
 use Rattle.fs_model.proofs.TextLengths.{path_len-path_text, key_len-key_text}
 use Rattle.journal_entry.specs.declared.entry.Entry.{Entry}
-use Rattle.journal_entry.specs.Fields.{four_bytes, eight_bytes, path_field, key_field, workers_field, flag_byte, stored_byte, node_byte, plan_kind_byte}
+use Rattle.journal_entry.specs.Fields.{four_bytes, eight_bytes, path_field, key_field, workers_field, flag_byte, stored_byte, node_byte}
 use Rattle.journal_entry.specs.EntryText.{kind_byte, body, fields, entry_text, has_bounds, fits}
 use Rattle.journal_entry.specs.Lengths.{body_len}
 use Rattle.journal_entry.specs.Meaning.{entry_of_change}

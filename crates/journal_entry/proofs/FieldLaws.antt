@@ -1,9 +1,9 @@
 -- Each field that is read is the field that was written, and what was written is read again.
-use Rattle.std.proofs.Common.{◌≡◌, ℕ, zero, suc, ◌+◌, ◌*◌, ◌^◌, ◌<◌, ◌≤◌, Bool, true, false, cond, ltb, leb, ◌&&◌, List, [], ◌∷◌, ◌++◌, length, get_or, take, drop, Option, Some, None, Result, Ok, Err, refl, sym, ap, subst, ◌∙◌, append_assoc, arith}
+use Rattle.std.proofs.Common.{◌≡◌, ℕ, zero, suc, ◌^◌, ◌<◌, ◌≤◌, Bool, true, false, ltb, leb, ◌&&◌, List, [], ◌∷◌, ◌++◌, length, take, drop, Some, Result, Ok, Err, refl, sym, ap, subst, ◌∙◌, append_assoc, arith}
 use Rattle.std.specs.Int.{Width, w16, w32, w64, byte_len, from_be_bytes, to_be_bytes}
 use Rattle.std.specs.List.{flat_map}
 use Rattle.std.specs.Result.{result_ok}
-use Rattle.std.proofs.lemmas.Bool.{ltb-false, le-ltb, leb-true, le-leb}
+use Rattle.std.proofs.lemmas.Bool.{ltb-false, le-ltb, leb-true}
 use Rattle.std.proofs.lemmas.List.{take_at, drop_at, take-append-drop, length-append, length-take}
 use Rattle.std.proofs.lemmas.Nat.{be_bytes_2, be_bytes_4, be_bytes_8, from_be_bytes-to_be_bytes_2, from_be_bytes-to_be_bytes_4, from_be_bytes-to_be_bytes_8}
 use Rattle.fs_model.specs.PathForm.{path_text, key_text, is_path, is_key, are_key_names}
@@ -15,8 +15,8 @@ use Rattle.fs_model.specs.declared.change.PlanKind.{PlanKind}
 use Rattle.fs_model.proofs.Grammar.{read_found, read_again, is_short}
 use Rattle.fs_model.proofs.KeyGrammar.{key_found, key_again}
 use Rattle.journal_entry.specs.Fields.{two_bytes, four_bytes, eight_bytes, counted, path_field, key_field, workers_field, flag_byte, stored_byte, plan_kind_byte, node_byte, is_file_id, is_plan, is_plan_or_none, is_next, is_worker, are_above, are_workers}
-use Rattle.journal_entry.specs.Reading.{Reader, ◌>>=◌, tested, number_at, byte_at, part_at, counted_at, path_at, key_at, flag_of, flag_at, node_of, node_at, stored_of, stored_at, plan_kind_of, plan_kind_at, len_at, store_at, id_at, plan_at, plan_or_none_at, next_at, worker_at, above_at, workers_from, workers_at}
-use Rattle.journal_entry.proofs.Parts.{IsBytes, IsBytes-drop, IsBytes-take, IsBytes-rest, bind_some, let_through, kept_out, some_is, first_true, second_true, both, Takes, Takes-then, Reads, then_reads, tested_reads, Means, meaning_reads}
+use Rattle.journal_entry.specs.Reading.{◌>>=◌, tested, number_at, byte_at, part_at, counted_at, path_at, key_at, flag_of, flag_at, node_of, node_at, stored_of, stored_at, plan_kind_of, plan_kind_at, len_at, store_at, id_at, plan_at, plan_or_none_at, next_at, worker_at, above_at, workers_from, workers_at}
+use Rattle.journal_entry.proofs.Parts.{IsBytes, IsBytes-drop, IsBytes-take, IsBytes-rest, bind_some, kept_out, some_is, first_true, second_true, both, Takes, Takes-then, Reads, tested_reads, Means, meaning_reads}
 
 -- ---- numbers
 

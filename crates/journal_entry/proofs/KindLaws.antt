@@ -1,13 +1,12 @@
 -- What is read of a body is the entry of that body, kind by kind.
-use Rattle.std.proofs.Common.{◌≡◌, ℕ, zero, suc, ◌+◌, ◌^◌, ◌<◌, ◌≤◌, Bool, true, false, cond, not, ltb, leb, eqb, ◌&&◌, ◌||◌, List, [], ◌∷◌, ◌++◌, length, Option, Some, None, refl, sym, ap, subst, ◌∙◌, arith}
+use Rattle.std.proofs.Common.{◌≡◌, ℕ, ◌^◌, ◌<◌, ◌≤◌, Bool, true, false, cond, not, ltb, leb, eqb, ◌&&◌, ◌||◌, List, [], ◌∷◌, Option, Some, refl, sym, ap, subst, ◌∙◌, arith}
 use Rattle.std.proofs.lemmas.Bool.{eqb-true, ltb-true, lt-ltb, leb-true}
 use Rattle.fs_model.specs.PathForm.{is_path, is_key}
 use Rattle.fs_model.specs.declared.reply.Stored.{Stored}
-use Rattle.fs_model.specs.declared.change.PlanKind.{PlanKind}
 use Rattle.journal_entry.specs.declared.entry.Entry.{Entry}
-use Rattle.journal_entry.specs.Fields.{is_file_id, is_plan, is_plan_or_none, is_plan_of, is_next, is_worker, are_workers, is_no, is_move, is_root, eight_bytes, four_bytes, path_field}
+use Rattle.journal_entry.specs.Fields.{is_file_id, is_plan, is_plan_or_none, is_plan_of, is_next, is_worker, is_no, is_move, is_root}
 use Rattle.journal_entry.specs.EntryText.{kind_byte, fields, body, has_form, has_bounds, is_node}
-use Rattle.journal_entry.specs.Reading.{Reader, ◌then◌, tested, whole, mkdir_of, create_of, done_of, remove_of, move_of, pin_of, want_of, plan_end_of, persisted_of, mount_of, unmount_of, seen_of, lost_of, loaded_of, next_of, row_of, pending_of, leaf_of, Kind, changes, rows, read_by, change_of, checkpoint_of, entry_of}
+use Rattle.journal_entry.specs.Reading.{Reader, whole, mkdir_of, create_of, done_of, remove_of, move_of, pin_of, want_of, plan_end_of, persisted_of, mount_of, unmount_of, seen_of, lost_of, loaded_of, next_of, row_of, pending_of, leaf_of, Kind, changes, rows, read_by, change_of, checkpoint_of, entry_of}
 use Rattle.journal_entry.proofs.Parts.{IsBytes, IsBytes-rest, first_true, second_true, both, Reads, then_reads, tested_reads, whole_found, whole_again}
 use Rattle.journal_entry.proofs.FieldLaws.{number64, len_reads, store_reads, id_reads, plan_reads, plan_or_none_reads, next_reads, worker_reads, flag_reads, node_reads, stored_reads, plan_kind_reads, path_reads, key_reads, workers_reads}
 

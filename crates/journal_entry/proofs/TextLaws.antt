@@ -1,13 +1,13 @@
 -- A text is read as an entry exactly where it begins with the text of that entry.
-use Rattle.std.proofs.Common.{◌≡◌, ℕ, ◌+◌, ◌^◌, ◌<◌, ◌≤◌, Bool, true, ltb, leb, ◌&&◌, List, [], ◌∷◌, ◌++◌, length, take, drop, Option, Some, None, refl, sym, ap, subst, ◌∙◌, append_assoc, arith}
+use Rattle.std.proofs.Common.{◌≡◌, ℕ, ◌+◌, ◌^◌, ◌<◌, ◌≤◌, true, leb, List, ◌++◌, length, take, drop, Some, refl, sym, ap, subst, ◌∙◌, append_assoc, arith}
 use Rattle.std.specs.Int.{w32}
-use Rattle.std.proofs.lemmas.Bool.{leb-true, le-leb}
+use Rattle.std.proofs.lemmas.Bool.{leb-true}
 use Rattle.std.proofs.lemmas.List.{take_at, drop_at, length-append, take-append-drop}
 use Rattle.journal_entry.specs.declared.entry.Entry.{Entry}
 use Rattle.journal_entry.specs.Fields.{four_bytes}
 use Rattle.journal_entry.specs.EntryText.{body, entry_text, has_form, has_bounds, fits, is_entry, IsEntryText}
-use Rattle.journal_entry.specs.Reading.{Reader, ◌>>=◌, tested, number_at, part_at, entry_of, entry_at}
-use Rattle.journal_entry.proofs.Parts.{IsBytes, bind_some, some_is, first_true, second_true, both, Takes, Reads, tested_reads}
+use Rattle.journal_entry.specs.Reading.{◌>>=◌, tested, number_at, part_at, entry_of, entry_at}
+use Rattle.journal_entry.proofs.Parts.{IsBytes, bind_some, some_is, first_true, second_true, both, Reads, tested_reads}
 use Rattle.journal_entry.proofs.FieldLaws.{number32, part_found, part_again, IsBytes-front}
 use Rattle.journal_entry.proofs.KindLaws.{entry_found, entry_again}
 

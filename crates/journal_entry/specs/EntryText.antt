@@ -1,9 +1,9 @@
 -- The grammar of the journal's entries: which bytes are the text of which entry.
-use Rattle.std.specs.Prelude.{◌≡◌, ℕ, ◌^◌, Bool, true, false, not, ◌&&◌, ◌||◌, ◌==◌, nat_lt, nat_le, List, [], ◌∷◌, ◌++◌, length, if◌then◌else◌}
+use Rattle.std.specs.Prelude.{◌≡◌, ℕ, ◌^◌, Bool, true, false, not, ◌&&◌, ◌||◌, ◌==◌, nat_lt, nat_le, List, [], ◌∷◌, ◌++◌, length}
 use Rattle.fs_model.specs.PathForm.{is_path, is_key}
 use Rattle.fs_model.specs.declared.reply.Stored.{Stored}
 use Rattle.journal_entry.specs.declared.entry.Entry.{Entry}
-use Rattle.journal_entry.specs.Fields.{two_bytes, four_bytes, eight_bytes, path_field, key_field, workers_field, flag_byte, stored_byte, plan_kind_byte, node_byte, is_file_id, is_plan, is_plan_or_none, is_plan_of, is_next, is_worker, are_workers, is_no, is_move, is_root}
+use Rattle.journal_entry.specs.Fields.{four_bytes, eight_bytes, path_field, key_field, workers_field, flag_byte, stored_byte, plan_kind_byte, node_byte, is_file_id, is_plan, is_plan_or_none, is_plan_of, is_next, is_worker, are_workers, is_no, is_move, is_root}
 
 -- ---- the bytes of an entry
 

@@ -1,5 +1,5 @@
 -- Laws above the grammar of entries.
-use Rattle.std.specs.Prelude.{◌≡◌, ℕ, ◌+◌, ◌<◌, true, List, ◌++◌, length, take, slice_index, sum_by, Option, Some}
+use Rattle.std.specs.Prelude.{◌≡◌, ℕ, ◌+◌, ◌<◌, true, List, ◌++◌, length, take, slice_index, sum_by, Some}
 use Rattle.fs_model.specs.declared.change.Change.{Change}
 use Rattle.fs_model.specs.Changes.{entry_len}
 use Rattle.fs_model.specs.NodesEvents.{checkpoint_gate}

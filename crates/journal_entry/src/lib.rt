@@ -10,4 +10,6 @@ mod field;
 mod kind;
 pub mod laws;
 mod put;
+#[cfg(test)]
+mod tests;
 mod workers;

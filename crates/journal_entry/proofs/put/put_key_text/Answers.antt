@@ -1,5 +1,4 @@
-use Rattle.std.proofs.Common.{◌≡◌, ◌+◌, ◌-◌, length, get_or, take, drop, ap, sym, ◌∙◌, arith}
-use Rattle.fs_model.specs.PathLength.{path_bytes}
+use Rattle.std.proofs.Common.{length, ap, arith}
 use Rattle.fs_model.specs.Changes.{key_len}
 use Rattle.journal_entry.proofs.KeyParts.{key_len-parts}
 use Rattle.journal_entry.proofs.put.put_key_text.Goals as goal

@@ -1,6 +1,5 @@
-use Rattle.std.proofs.Common.{◌≡◌, ◌≤◌, true, arith, subst, sym}
+use Rattle.std.proofs.Common.{◌≡◌, true, arith, subst, sym}
 use Rattle.fs_model.specs.PathForm.{is_key}
-use Rattle.fs_model.specs.PathLength.{path_bytes}
 use Rattle.fs_model.proofs.KeyGrammar.{key_bytes-short}
 use Rattle.fs_model.proofs.prefix.Prefix.text_len.Goals as goal
 
