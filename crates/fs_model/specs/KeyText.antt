@@ -1,4 +1,4 @@
--- How the text of a key is read. No type of this crate is named here.
+-- How the text of a key is read.
 use Rattle.std.specs.Prelude.{ℕ, ◌&&◌, nat_le, List, [], ◌∷◌, length, Option, Some, None, if◌then◌else◌}
 use Rattle.fs_model.specs.PathForm.{are_key_names}
 use Rattle.fs_model.specs.PathText.{parts_at}

@@ -24,6 +24,7 @@ fn end(rest: &[u8]) -> Result<(), Fault>
     Ok(())
 }
 
+/// A directory that is made: its path.
 #[tactic(auto, unfolding(crate::specs::Reading::mkdir_of))]
 fn mkdir_of(alloc: Global, fields: &[u8]) -> Result<Entry, Fault>
     ensures { Gives (λ e. e) result (mkdir_of fields.now) }
@@ -33,6 +34,7 @@ fn mkdir_of(alloc: Global, fields: &[u8]) -> Result<Entry, Fault>
     Ok(Entry::Mkdir { path })
 }
 
+/// A file that is made: its id and path.
 #[tactic(auto, unfolding(crate::specs::Reading::create_of))]
 fn create_of(alloc: Global, fields: &[u8]) -> Result<Entry, Fault>
     ensures { Gives (λ e. e) result (create_of fields.now) }
@@ -46,6 +48,7 @@ fn create_of(alloc: Global, fields: &[u8]) -> Result<Entry, Fault>
     })
 }
 
+/// A file that is done: its id, its length, how it stands to its under-store, and its plan.
 #[tactic(auto, unfolding(crate::specs::Reading::done_of))]
 fn done_of(fields: &[u8]) -> Result<Entry, Fault>
     ensures { Gives (λ e. e) result (done_of fields.now) }
@@ -66,6 +69,7 @@ fn done_of(fields: &[u8]) -> Result<Entry, Fault>
     })
 }
 
+/// A node that goes: its path, and a plan.
 #[tactic(auto, unfolding(crate::specs::Reading::remove_of))]
 fn remove_of(alloc: Global, fields: &[u8]) -> Result<Entry, Fault>
     ensures { Gives (λ e. e) result (remove_of fields.now) }
@@ -79,6 +83,7 @@ fn remove_of(alloc: Global, fields: &[u8]) -> Result<Entry, Fault>
     })
 }
 
+/// A node that moves: its path before and afterwards, and a plan.
 #[tactic(auto, unfolding(crate::specs::Reading::move_of))]
 fn move_of(alloc: Global, fields: &[u8]) -> Result<Entry, Fault>
     ensures { Gives (λ e. e) result (move_of fields.now) }
@@ -94,6 +99,7 @@ fn move_of(alloc: Global, fields: &[u8]) -> Result<Entry, Fault>
     })
 }
 
+/// A file that is pinned or not: its path, and a flag.
 #[tactic(auto, unfolding(crate::specs::Reading::pin_of))]
 fn pin_of(alloc: Global, fields: &[u8]) -> Result<Entry, Fault>
     ensures { Gives (λ e. e) result (pin_of fields.now) }
@@ -104,6 +110,7 @@ fn pin_of(alloc: Global, fields: &[u8]) -> Result<Entry, Fault>
     Ok(Entry::Pin { path, on })
 }
 
+/// A file that is to be kept: its id.
 #[tactic(auto, unfolding(crate::specs::Reading::want_of))]
 fn want_of(fields: &[u8]) -> Result<Entry, Fault>
     ensures { Gives (λ e. e) result (want_of fields.now) }
@@ -113,6 +120,7 @@ fn want_of(fields: &[u8]) -> Result<Entry, Fault>
     Ok(Entry::Want { id: FileId(id) })
 }
 
+/// A plan that is done.
 #[tactic(auto, unfolding(crate::specs::Reading::plan_end_of))]
 fn plan_end_of(fields: &[u8]) -> Result<Entry, Fault>
     ensures { Gives (λ e. e) result (plan_end_of fields.now) }
@@ -122,6 +130,7 @@ fn plan_end_of(fields: &[u8]) -> Result<Entry, Fault>
     Ok(Entry::PlanEnd { plan: PlanNo(plan) })
 }
 
+/// A file that was written to its under-store: its id, and its plan.
 #[tactic(auto, unfolding(crate::specs::Reading::persisted_of))]
 fn persisted_of(fields: &[u8]) -> Result<Entry, Fault>
     ensures { Gives (λ e. e) result (persisted_of fields.now) }
@@ -135,6 +144,7 @@ fn persisted_of(fields: &[u8]) -> Result<Entry, Fault>
     })
 }
 
+/// A mount: its path, its store and key, and a plan.
 #[tactic(auto, unfolding(crate::specs::Reading::mount_of))]
 fn mount_of(alloc: Global, fields: &[u8]) -> Result<Entry, Fault>
     ensures { Gives (λ e. e) result (mount_of fields.now) }
@@ -152,6 +162,7 @@ fn mount_of(alloc: Global, fields: &[u8]) -> Result<Entry, Fault>
     })
 }
 
+/// A mount that goes: its path.
 #[tactic(auto, unfolding(crate::specs::Reading::unmount_of))]
 fn unmount_of(alloc: Global, fields: &[u8]) -> Result<Entry, Fault>
     ensures { Gives (λ e. e) result (unmount_of fields.now) }
@@ -161,6 +172,7 @@ fn unmount_of(alloc: Global, fields: &[u8]) -> Result<Entry, Fault>
     Ok(Entry::Unmount { path })
 }
 
+/// A worker that registered.
 #[tactic(auto, unfolding(crate::specs::Reading::seen_of))]
 fn seen_of(fields: &[u8]) -> Result<Entry, Fault>
     ensures { Gives (λ e. e) result (seen_of fields.now) }
@@ -172,6 +184,7 @@ fn seen_of(fields: &[u8]) -> Result<Entry, Fault>
     })
 }
 
+/// Workers that went silent.
 #[tactic(auto, unfolding(crate::specs::Reading::lost_of))]
 fn lost_of(alloc: Global, fields: &[u8]) -> Result<Entry, Fault>
     ensures { Gives (λ e. e) result (lost_of fields.now) }
@@ -181,6 +194,7 @@ fn lost_of(alloc: Global, fields: &[u8]) -> Result<Entry, Fault>
     Ok(Entry::Lost { workers })
 }
 
+/// A file that was found: its id, its path and its length.
 #[tactic(auto, unfolding(crate::specs::Reading::loaded_of))]
 fn loaded_of(alloc: Global, fields: &[u8]) -> Result<Entry, Fault>
     ensures { Gives (λ e. e) result (loaded_of fields.now) }
@@ -196,6 +210,7 @@ fn loaded_of(alloc: Global, fields: &[u8]) -> Result<Entry, Fault>
     })
 }
 
+/// The numbers that the next file and the next plan get.
 #[tactic(auto, unfolding(crate::specs::Reading::next_of))]
 fn next_of(fields: &[u8]) -> Result<Entry, Fault>
     ensures { Gives (λ e. e) result (next_of fields.now) }
@@ -209,6 +224,7 @@ fn next_of(fields: &[u8]) -> Result<Entry, Fault>
     })
 }
 
+/// A node of a checkpoint: its path, what it is, and what is kept of it.
 #[tactic(auto, unfolding(crate::specs::Reading::row_of))]
 fn row_of(alloc: Global, fields: &[u8]) -> Result<Entry, Fault>
     ensures { Gives (λ e. e) result (row_of fields.now) }
@@ -235,6 +251,7 @@ fn row_of(alloc: Global, fields: &[u8]) -> Result<Entry, Fault>
     })
 }
 
+/// A pending plan: its number, what it does, and its paths.
 #[tactic(auto, unfolding(crate::specs::Reading::pending_of))]
 fn pending_of(alloc: Global, fields: &[u8]) -> Result<Entry, Fault>
     ensures { Gives (λ e. e) result (pending_of fields.now) }
@@ -255,6 +272,7 @@ fn pending_of(alloc: Global, fields: &[u8]) -> Result<Entry, Fault>
     })
 }
 
+/// A file whose object a plan removes: the plan, and the path.
 #[tactic(auto, unfolding(crate::specs::Reading::leaf_of))]
 fn leaf_of(alloc: Global, fields: &[u8]) -> Result<Entry, Fault>
     ensures { Gives (λ e. e) result (leaf_of fields.now) }

@@ -68,7 +68,7 @@ fn check(rt: &impl Abort, alloc: Global, text: &[u8], entry: Entry) -> Result<()
 }
 
 #[test]
-fn names_that_come(rt: HostRuntime) -> Result<(), Fail> {
+fn made_names_have_their_texts(rt: HostRuntime) -> Result<(), Fail> {
     let alloc = rt.alloc();
     let mkdir = Entry::Mkdir {
         path: path(alloc, "/a")?,
@@ -98,7 +98,7 @@ fn names_that_come(rt: HostRuntime) -> Result<(), Fail> {
 }
 
 #[test]
-fn names_that_go(rt: HostRuntime) -> Result<(), Fail> {
+fn removed_names_have_their_texts(rt: HostRuntime) -> Result<(), Fail> {
     let alloc = rt.alloc();
     let remove = Entry::Remove {
         path: path(alloc, "/a")?,
@@ -125,7 +125,7 @@ fn names_that_go(rt: HostRuntime) -> Result<(), Fail> {
 }
 
 #[test]
-fn files_that_are_done(rt: HostRuntime) -> Result<(), Fail> {
+fn done_files_have_their_texts(rt: HostRuntime) -> Result<(), Fail> {
     let alloc = rt.alloc();
     let kept_here = Entry::Done {
         id: FileId(7),
@@ -154,7 +154,7 @@ fn files_that_are_done(rt: HostRuntime) -> Result<(), Fail> {
 }
 
 #[test]
-fn files_that_are_kept(rt: HostRuntime) -> Result<(), Fail> {
+fn kept_files_have_their_texts(rt: HostRuntime) -> Result<(), Fail> {
     let alloc = rt.alloc();
     let pin = Entry::Pin {
         path: path(alloc, "/a")?,
@@ -187,7 +187,7 @@ fn files_that_are_kept(rt: HostRuntime) -> Result<(), Fail> {
 }
 
 #[test]
-fn mounts(rt: HostRuntime) -> Result<(), Fail> {
+fn mounts_have_their_texts(rt: HostRuntime) -> Result<(), Fail> {
     let alloc = rt.alloc();
     let root = Entry::Mount {
         path: Path::root(alloc),
@@ -221,7 +221,7 @@ fn mounts(rt: HostRuntime) -> Result<(), Fail> {
 }
 
 #[test]
-fn workers_that_come_and_go(rt: HostRuntime) -> Result<(), Fail> {
+fn workers_have_their_texts(rt: HostRuntime) -> Result<(), Fail> {
     let alloc = rt.alloc();
     let worker = WorkerNo(64);
     check(
@@ -240,7 +240,7 @@ fn workers_that_come_and_go(rt: HostRuntime) -> Result<(), Fail> {
 }
 
 #[test]
-fn nodes_of_a_checkpoint(rt: HostRuntime) -> Result<(), Fail> {
+fn checkpoint_nodes_have_their_texts(rt: HostRuntime) -> Result<(), Fail> {
     let alloc = rt.alloc();
     let directory = Entry::Node {
         path: path(alloc, "/a")?,
@@ -290,7 +290,7 @@ fn nodes_of_a_checkpoint(rt: HostRuntime) -> Result<(), Fail> {
 }
 
 #[test]
-fn plans_of_a_checkpoint(rt: HostRuntime) -> Result<(), Fail> {
+fn checkpoint_plans_have_their_texts(rt: HostRuntime) -> Result<(), Fail> {
     let alloc = rt.alloc();
     let next = Entry::Next {
         id: FileId(1),
@@ -340,7 +340,7 @@ fn plans_of_a_checkpoint(rt: HostRuntime) -> Result<(), Fail> {
 }
 
 #[test]
-fn lengths_and_paths_that_are_none(rt: HostRuntime) -> Result<(), Fail> {
+fn bad_lengths_and_paths_are_no_entry(rt: HostRuntime) -> Result<(), Fail> {
     for (name, bytes) in [
         ("a kind of 0", b"\x00\x00\x00\x01\x00".as_slice()),
         ("a kind of 19", b"\x00\x00\x00\x05\x13\x00\x02/a"),
@@ -388,7 +388,7 @@ fn lengths_and_paths_that_are_none(rt: HostRuntime) -> Result<(), Fail> {
 }
 
 #[test]
-fn numbers_and_flags_that_are_none(rt: HostRuntime) -> Result<(), Fail> {
+fn bad_numbers_and_flags_are_no_entry(rt: HostRuntime) -> Result<(), Fail> {
     for (name, bytes) in [
         (
             "a file 0",
@@ -479,7 +479,7 @@ fn numbers_and_flags_that_are_none(rt: HostRuntime) -> Result<(), Fail> {
 }
 
 #[test]
-fn rows_of_a_checkpoint_that_are_none(rt: HostRuntime) -> Result<(), Fail> {
+fn bad_rows_of_a_checkpoint_are_no_entry(rt: HostRuntime) -> Result<(), Fail> {
     for (name, bytes) in [
         (
             "a node that is 2",
