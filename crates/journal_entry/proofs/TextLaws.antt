@@ -1,13 +1,13 @@
 -- A text is read as an entry exactly where it begins with the text of that entry.
-use Rattle.std.proofs.Common.{◌≡◌, ℕ, ◌+◌, ◌^◌, ◌<◌, ◌≤◌, true, leb, List, ◌++◌, length, take, drop, Some, refl, sym, ap, subst, ◌∙◌, append_assoc, arith}
-use Rattle.std.specs.Int.{w32}
-use Rattle.std.proofs.lemmas.Bool.{leb-true}
-use Rattle.std.proofs.lemmas.List.{take_at, drop_at, length-append, take-append-drop}
+use Rattle.std.proofs.Common.{◌≡◌, ℕ, ◌+◌, ◌^◌, ◌<◌, ◌≤◌, true, false, cond, ltb, leb, List, ◌++◌, length, take, drop, Some, None, refl, sym, ap, subst, ◌∙◌, append_assoc, arith}
+use Rattle.std.specs.Int.{w32, from_be_bytes}
+use Rattle.std.proofs.lemmas.Bool.{leb-true, le-ltb, ltb-false}
+use Rattle.std.proofs.lemmas.List.{take_at, drop_at, length-append, length-take, take-append-drop}
 use Rattle.journal_entry.specs.declared.entry.Entry.{Entry}
 use Rattle.journal_entry.specs.Fields.{four_bytes}
 use Rattle.journal_entry.specs.EntryText.{body, entry_text, has_form, has_bounds, fits, is_entry, IsEntryText}
 use Rattle.journal_entry.specs.Reading.{◌>>=◌, tested, number_at, part_at, entry_of, entry_at}
-use Rattle.journal_entry.proofs.Parts.{IsBytes, bind_some, some_is, first_true, second_true, both, Reads, tested_reads}
+use Rattle.journal_entry.proofs.Parts.{IsBytes, bind_some, let_through, kept_out, some_is, first_true, second_true, both, Reads, tested_reads}
 use Rattle.journal_entry.proofs.FieldLaws.{number32, part_found, part_again, IsBytes-front}
 use Rattle.journal_entry.proofs.KindLaws.{entry_found, entry_again}
 
@@ -75,9 +75,35 @@ one_text e f x y he hf h =
     let rests : drop (length (entry_text e)) (entry_text e ++ x) ≡ drop (length (entry_text e)) (entry_text e ++ y) = ap (drop (length (entry_text e))) (h ∙ ap (λ (g : Entry). entry_text g ++ y) (sym same)) in
     (same, sym (drop_at (entry_text e) x (length (entry_text e)) refl) ∙ rests ∙ drop_at (entry_text e) y (length (entry_text e)) refl)
 
+-- a number is read of its bytes, whatever follows
+number_front : (front rest : List ℕ) → length front ≡ 4 → number_at w32 (front ++ rest) ≡ Some (from_be_bytes w32 front, rest)
+number_front front rest len =
+    let long : ltb (length (front ++ rest)) 4 ≡ false = le-ltb _ _ (omega (arith, length-append front rest)) in
+    rw (long, take_at front rest 4 len, drop_at front rest 4 len) refl
+
+-- which bytes a number was read of
+number_found : (text : List ℕ) (n : ℕ) (rest : List ℕ) → number_at w32 text ≡ Some (n, rest) → (front : List ℕ) × (length front ≡ 4) × (text ≡ front ++ rest) × (from_be_bytes w32 front ≡ n)
+number_found text n rest e =
+    let g = kept_out (ltb (length text) 4) (from_be_bytes w32 (take 4 text), drop 4 text) (n, rest) e in
+    let long : 4 ≤ length text = ltb-false _ _ g.0 in
+    (take 4 text, omega (arith, length-take 4 text), sym (take-append-drop 4 text) ∙ ap (λ (p : ℕ × List ℕ). take 4 text ++ p.1) g.1, ap (λ (p : ℕ × List ℕ). p.0) g.1)
+
 -- what is read doesn't depend on what stands behind it
-pub no_further : (text rest : List ℕ) (e : Entry) (n : ℕ) → IsBytes text → entry_at text ≡ Some (e, n) → entry_at (take n text ++ rest) ≡ Some (e, n)
-no_further text rest e n fit h =
-    let f = text_found text e n fit h in
-    let t = found_text text e n f in
-    ap (λ (w : List ℕ). entry_at (w ++ rest)) t.0.bytes ∙ text_again e rest f.entry ∙ ap (λ (k : ℕ). Some (e, k)) (sym f.len)
+pub no_further : (text rest : List ℕ) (e : Entry) (n : ℕ) → entry_at text ≡ Some (e, n) → entry_at (take n text ++ rest) ≡ Some (e, n)
+unfolding entry_at
+no_further text rest e n h =
+    let a = bind_some (tested (λ n. leb n 8248) (number_at w32) text) (λ n. part_at n.0 n.1 >>= λ part. entry_of part.0 >>= λ e. Some (e, 4 + n.0)) (e, n) h in
+    let b = bind_some (part_at a.0.0 a.0.1) (λ part. entry_of part.0 >>= λ e. Some (e, 4 + a.0.0)) (e, n) a.2 in
+    let c = bind_some (entry_of b.0.0) (λ e. Some (e, 4 + a.0.0)) (e, n) b.2 in
+    let d = bind_some (number_at w32 text) (λ x. cond (leb x.0 8248) (Some x) None) a.0 a.1 in
+    let t = let_through (leb d.0.0 8248) d.0 a.0 d.2 in
+    let number : number_at w32 text ≡ Some a.0 = d.1 ∙ ap (λ (x : ℕ × List ℕ). Some x) t.1 in
+    let short : leb a.0.0 8248 ≡ true = subst (λ (x : ℕ × List ℕ). leb x.0 8248 ≡ true) t.1 t.0 in
+    let f = number_found text a.0.0 a.0.1 number in
+    let p = part_found a.0.0 a.0.1 b.0.0 b.0.1 b.1 in
+    let len : n ≡ length (f.0 ++ b.0.0) = omega (arith, ap (λ (x : Entry × ℕ). x.1) (some_is (c.0, 4 + a.0.0) (e, n) c.2), length-append f.0 b.0.0, f.1, p.1) in
+    let parts : text ≡ (f.0 ++ b.0.0) ++ b.0.1 = f.2 ∙ ap (λ (w : List ℕ). f.0 ++ w) p.0 ∙ sym (append_assoc f.0 b.0.0 b.0.1) in
+    let front : take n text ≡ f.0 ++ b.0.0 = ap (take n) parts ∙ take_at (f.0 ++ b.0.0) b.0.1 n (sym len) in
+    let part : part_at a.0.0 (b.0.0 ++ rest) ≡ Some (b.0.0, rest) = ap (λ (k : ℕ). part_at k (b.0.0 ++ rest)) (sym p.1) ∙ part_again b.0.0 rest in
+    ap (λ (w : List ℕ). entry_at (w ++ rest)) front ∙ ap entry_at (append_assoc f.0 b.0.0 rest)
+    ∙ rw (number_front f.0 (b.0.0 ++ rest) f.1, f.3, short, part, c.1) c.2

@@ -1,5 +1,5 @@
 -- Laws above the grammar of entries.
-use Rattle.std.specs.Prelude.{◌≡◌, ℕ, ◌+◌, ◌<◌, true, List, ◌++◌, length, take, slice_index, sum_by, Some}
+use Rattle.std.specs.Prelude.{◌≡◌, ℕ, ◌+◌, true, List, ◌++◌, length, take, sum_by, Some}
 use Rattle.fs_model.specs.declared.change.Change.{Change}
 use Rattle.fs_model.specs.Changes.{entry_len}
 use Rattle.fs_model.specs.NodesEvents.{checkpoint_gate}
@@ -20,7 +20,7 @@ TextIsReadAgain = (e : Entry) (rest : List ℕ) → is_entry e ≡ true → entr
 
 -- what was read of some bytes is read of the front that it took, whatever follows that
 abbrev pub ReadingLooksNoFurther : Type 0
-ReadingLooksNoFurther = (text rest : List ℕ) (e : Entry) (n : ℕ) → ((i : ℕ) → slice_index text i < 256) → entry_at text ≡ Some (e, n) → entry_at (take n text ++ rest) ≡ Some (e, n)
+ReadingLooksNoFurther = (text rest : List ℕ) (e : Entry) (n : ℕ) → entry_at text ≡ Some (e, n) → entry_at (take n text ++ rest) ≡ Some (e, n)
 
 -- the machine counts just the lengths of the texts for its changes
 abbrev pub ChangesAreCounted : Type 0
