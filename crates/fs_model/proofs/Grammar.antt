@@ -10,15 +10,15 @@ use Rattle.fs_model.specs.declared.path.PathFault.TheVariants.{TooLong, BadName}
 use Rattle.fs_model.specs.PathForm.{is_name, is_name_byte, names_text, path_text, is_path}
 use Rattle.fs_model.specs.PathText.{names_of, onto, parts_at, spelled, read_path}
 
-first_true : (a b : Bool) → (a && b) ≡ true → a ≡ true
+pub first_true : (a b : Bool) → (a && b) ≡ true → a ≡ true
 first_true true b h = refl
 first_true false b h = cc
 
-second_true : (a b : Bool) → (a && b) ≡ true → b ≡ true
+pub second_true : (a b : Bool) → (a && b) ≡ true → b ≡ true
 second_true true b h = h
 second_true false b h = cc
 
-both : (a b : Bool) → a ≡ true → b ≡ true → (a && b) ≡ true
+pub both : (a b : Bool) → a ≡ true → b ≡ true → (a && b) ≡ true
 both true b h k = k
 both false b h k = h
 
@@ -68,7 +68,7 @@ name_bytes n h =
     let b = first_true _ _ a in
     second_true _ _ b
 
-slashless : (n : List ℕ) → is_name n ≡ true → All (λ x. eqb x 47 ≡ false) n
+pub slashless : (n : List ℕ) → is_name n ≡ true → All (λ x. eqb x 47 ≡ false) n
 slashless n h = All-from_recursion (λ x. eqb x 47 ≡ false) n (no_slash n (name_bytes n h))
 
 -- the parts of names joined by slashes are these names
@@ -104,7 +104,7 @@ when_true : {A : Type 0} (b : Bool) (x : Result A PathFault) (e : PathFault) (v 
 when_true true x e v h = (refl, h)
 when_true false x e v h = cc
 
-text_of : (xs : List ℕ) (ns : List (List ℕ)) → ns ≡ parts_at 47 xs → 47 ∷ xs ≡ path_text ns
+pub text_of : (xs : List ℕ) (ns : List (List ℕ)) → ns ≡ parts_at 47 xs → 47 ∷ xs ≡ path_text ns
 text_of xs [] h = absurd (omega (arith, length-slice_split (λ x. eqb x 47) xs, ap length h))
 text_of xs (n ∷ ns) h = ap (λ (x : List ℕ). 47 ∷ x) (sym (join_with_byte-slice_split 47 xs) ∙ ap (join_with_byte 47) (sym h)) ∙ sym (joined n ns)
 

@@ -1,6 +1,7 @@
 pub mod PathForm
 pub mod PathLength
 pub mod PathText
+pub mod KeyText
 pub mod Equal
 pub mod Words
 pub mod State

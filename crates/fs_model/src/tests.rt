@@ -124,6 +124,54 @@ fn fills_are_copied(rt: HostRuntime) -> Result<(), Fail> {
 }
 
 #[test]
+fn texts_are_keys_or_none(rt: HostRuntime) -> Result<(), Fail> {
+    let alloc = rt.alloc();
+    for (text, names) in [
+        ("", Some(0usize)),
+        ("a", Some(1)),
+        ("a/b c/é", Some(3)),
+        (".tierfs", Some(1)),
+        (".tierfs/7", Some(2)),
+        ("/", None),
+        ("/a", None),
+        ("a/", None),
+        ("a//b", None),
+        ("..", None),
+        ("a/.", None),
+        ("a/.tierfs", None),
+        (".tierfs-new", None),
+        ("a\0", None),
+    ] {
+        let found = Prefix::read(alloc, text.as_bytes())?;
+        assert_eq!(rt;
+            found.as_ref().map(|key| key.as_slice().len()),
+            names,
+            "at {text}"
+        );
+        if let Some(key) = found {
+            assert_eq!(rt; key.text_len(), text.len() as u64, "at {text}");
+        }
+    }
+    Ok(())
+}
+
+#[test]
+fn keys_have_at_most_8192_bytes(rt: HostRuntime) -> Result<(), Fail> {
+    let alloc = rt.alloc();
+    let mut text = vec![in alloc; b'n'; 8191]?;
+    for (at, byte) in text.iter_mut().enumerate() {
+        if at % 2 == 1 {
+            *byte = b'/';
+        }
+    }
+    text.push(b'n')?;
+    assert!(rt; Prefix::read(alloc, &text)?.is_some());
+    text.push(b'n')?;
+    assert!(rt; Prefix::read(alloc, &text)?.is_none());
+    Ok(())
+}
+
+#[test]
 fn prefixes_are_copied(rt: HostRuntime) -> Result<(), Fail> {
     let empty = Prefix::empty(rt.alloc());
     assert!(rt; empty.clone()? == empty && empty.as_slice().is_empty());
