@@ -18,6 +18,7 @@ use Rattle.cluster_core.specs.declared.cluster.Core.{Core}
 use Rattle.cluster_core.specs.declared.node.Node.{Node}
 use Rattle.cluster_core.proofs.FirstState.{all_got}
 use Rattle.cluster_core.proofs.SteadyStay.{caused_by_tier}
+use Rattle.play_run.proofs.Runs.{quiet_runs}
 use Rattle.play_run.specs.Play.{CausedAlong, IsOver, QuietPlays, SteadyPlays, TiersAlong}
 use Rattle.play_run.specs.Sums.{NoneLast, NoneLastIn, answers, is_wait, media_total, node_total, total}
 
@@ -60,8 +61,6 @@ module _ {S R W : Type 0} (o : objects.Ghosts S R W) (r : reads.Ghosts R) (w : w
   pub quiet_plays : QuietPlays o r w
   quiet_plays U V commands media back before after play begins empty steady none same =
       let ran = play.holds.did.ran U V (play.stands V begins empty) in
-      let few = ran.few (none_last play.last back play.closed none) in
-      let hands = (ran.steady (play.steady steady)).0 in
-      let first = same_total play.first media play.opened in
-      let last = same_total play.last back play.closed in
-      omega (arith, few, ran.faults, hands, first, last, same)
+      let labels = ran.steady (play.steady steady) in
+      let sums : total o play.last ≡ total o play.first = same_total play.last back play.closed ∙ same ∙ sym (same_total play.first media play.opened) in
+      (quiet_runs o r w U V play.first play.last play.holds.lines ran (none_last play.last back play.closed none) sums labels.0 labels.1).0

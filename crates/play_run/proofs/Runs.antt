@@ -21,7 +21,7 @@ use Rattle.cluster_core.specs.Media.{MediaStays}
 use Rattle.cluster_core.specs.Stands.{Stands}
 use Rattle.cluster_core.specs.Steady.{IsSteady}
 use Rattle.cluster_core.specs.declared.cluster.Core.{Core}
-use Rattle.play_run.specs.Play.{Says, Played, Acts, CausedAlong, Lines, Ran, Tells, TellsFront, TellsPartly}
+use Rattle.play_run.specs.Play.{Says, Played, Acts, CausedAlong, Lines, QuietRuns, Ran, Tells, TellsFront, TellsPartly}
 use Rattle.play_run.specs.Sums.{RiseAlong}
 use Rattle.play_run.proofs.Sums.{run_faults, run_waits, steady_sums, sums}
 
@@ -172,6 +172,13 @@ module _ {S R W : Type 0} (o : objects.Ghosts S R W) (r : reads.Ghosts R) (w : w
 
           shown : lines_text (take (length so_far.lines) lines) ++ take n (lines_text (drop (length so_far.lines) lines)) ≡ lines_text so_far.lines ++ take n (line_text l)
           shown = ap (λ ls. lines_text ls ++ take n (lines_text (drop (length so_far.lines) lines))) (take_front so_far.lines (l ∷ [])) ∙ ap (λ xs. lines_text so_far.lines ++ take n xs) last
+
+-- where no count rose, no line answers a fault or a wait
+pub quiet_runs : {S R W : Type 0} (o : objects.Ghosts S R W) (r : reads.Ghosts R) (w : writes.Ghosts W) → QuietRuns o r w
+quiet_runs o r w U V old new lines ran none same hands waited = (
+  let few = ran.few none in omega (arith, few, ran.faults, same, hands),
+  omega (arith, ran.not_ready, waited),
+)
 
 -- what holds of each element of a list holds of the one at a place
 pub all_there : (test : Command → Bool) (cs : List Command) (i : ℕ) (c : Command) → list_all test cs ≡ true → i < length cs → c ≡ get_or cs i c → test c ≡ true

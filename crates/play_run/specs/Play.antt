@@ -68,6 +68,13 @@ module _ {S R W : Type 0} (o : objects.Ghosts S R W) (r : reads.Ghosts R) (w : w
     pub steady : IsSteady o r w old → (labels o r w old lines seen new rose ≡ 0) × (waits o r w old lines seen new rose ≡ 0)
     pub stands : Stands o r w U new after
 
+  -- where the sum of the tiers' counts is the same at the end, and no label's count or waits rose, no line answers a tier's fault or that the reader isn't ready
+  abbrev pub QuietRuns : Type 0
+  QuietRuns = (U : Setup) (V : Whole) (old new : Core S R W w) (lines : List Line) (ran : Ran U V old lines new)
+      → NoneLast o new → total o new ≡ total o old
+      → labels o r w old lines ran.seen new ran.rose ≡ 0 → waits o r w old lines ran.seen new ran.rose ≡ 0
+      → (answers is_tier_fault lines ≡ 0) × (answers is_wait lines ≡ 0)
+
   -- the lines are of these commands, each once and in order; each fault in them has its cause; and from every state that the core stood for they are a run
   pub record Lines (commands : List Command) (old : Core S R W w) (lines : List Line) (new : Core S R W w) : Type 0 where
     pub played : Played commands lines
@@ -120,7 +127,7 @@ module _ {S R W : Type 0} (o : objects.Ghosts S R W) (r : reads.Ghosts R) (w : w
 
   -- ---- steady media
 
-  -- there are cores from one line to the next, between which nothing but a tier's own count is the cause of a fault, and nothing waits
+  -- there are cores from one line to the next, between which nothing but a tier's own count, of failures or of misses, is the cause of a fault, and nothing waits
   abbrev pub TiersAlong : Core S R W w → List Line → Core S R W w → Type 0
   TiersAlong old [] new = new ≡ old
   TiersAlong old (line ∷ lines) new = (mid : Core S R W w) × OnlyTier (TierCounted o old mid) line.reply × MediaStays o old mid × TiersAlong mid lines new
