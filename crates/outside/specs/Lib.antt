@@ -15,3 +15,5 @@ pub mod Stored
 pub mod Fates
 pub mod Shelf
 pub mod Named
+pub mod History
+pub mod Fuse

@@ -1,8 +1,10 @@
-//! All that the program reaches outside itself: where bytes come from and go to, stores of objects,
-//! and a world that has all of them. `memory` has the same in memory, told which of its calls are to
+//! All that the program reaches outside itself: where bytes come from and go to, disks, stores of
+//! objects, and a world that has all of them. `memory` has the same in memory, told which of its calls are to
 //! fail.
 #![tactic(auto)]
 
+pub mod disk;
+pub mod fused;
 pub mod key;
 pub mod media;
 pub mod memory;
