@@ -1,0 +1,5 @@
+pub mod Moments
+pub mod Walk
+pub mod Area
+pub mod Stage
+pub mod Append

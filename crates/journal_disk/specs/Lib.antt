@@ -1,0 +1,5 @@
+pub mod AreaText
+pub mod Areas
+pub mod Journaling
+pub mod Staging
+pub mod Closing

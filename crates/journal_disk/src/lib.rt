@@ -1,0 +1,8 @@
+//! The journal: the entries of a master on two areas, of which one is current, so that a crash at any
+//! call leaves the entries so far, with or without the one in hand.
+#![tactic(auto)]
+
+mod fault;
+mod staging;
+
+pub use fault::{AppendFault, RecoverFault};
