@@ -3,3 +3,4 @@ pub mod Walk
 pub mod Area
 pub mod Stage
 pub mod Append
+pub mod Journals

@@ -3,6 +3,8 @@
 #![tactic(auto)]
 
 mod fault;
+mod journal;
 mod staging;
 
 pub use fault::{AppendFault, RecoverFault};
+pub use journal::Journal;
