@@ -4,3 +4,4 @@ pub mod Area
 pub mod Stage
 pub mod Append
 pub mod Journals
+pub mod Fronts

@@ -4,6 +4,7 @@
 
 mod fault;
 mod journal;
+mod reading;
 mod staging;
 
 pub use fault::{AppendFault, RecoverFault};
