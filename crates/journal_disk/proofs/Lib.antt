@@ -5,3 +5,4 @@ pub mod Stage
 pub mod Append
 pub mod Journals
 pub mod Fronts
+pub mod Openings

@@ -5,6 +5,7 @@
 mod fault;
 mod journal;
 mod reading;
+mod recover;
 mod staging;
 
 pub use fault::{AppendFault, RecoverFault};
