@@ -3,3 +3,8 @@ pub mod Walk
 pub mod Area
 pub mod Stage
 pub mod Append
+pub mod Shut
+pub mod Heads
+pub mod Anew
+pub mod Renewed
+pub mod Counts
