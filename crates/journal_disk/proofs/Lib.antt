@@ -8,3 +8,4 @@ pub mod Heads
 pub mod Anew
 pub mod Renewed
 pub mod Counts
+pub mod Text
