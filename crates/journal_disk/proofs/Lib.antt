@@ -6,3 +6,9 @@ pub mod Append
 pub mod Journals
 pub mod Fronts
 pub mod Openings
+pub mod Shut
+pub mod Heads
+pub mod Anew
+pub mod Renewed
+pub mod Counts
+pub mod Text
