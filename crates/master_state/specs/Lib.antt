@@ -1,0 +1,7 @@
+pub mod Walks
+pub mod Built
+pub mod Fits
+pub mod Effect
+pub mod Plain
+pub mod Laws
+pub mod Examples
