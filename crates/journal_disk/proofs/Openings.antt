@@ -1,11 +1,12 @@
 -- What the opening does to one area, and what that makes of both.
-use Rattle.std.proofs.Common.{◌≡◌, ◌⊎◌, inl, inr, ℕ, ◌≤◌, List, Option, None, OnOk, OnErr, Result, Ok, Err, IsTrue, refl, sym, ◌∙◌, ap, subst, arith}
-use Rattle.outside.specs.History.{History, Moment, IsImage, Images, Since, Leaves, after_sync}
+use Rattle.std.proofs.Common.{◌≡◌, ℕ, ◌≤◌, Bool, false, List, Option, Some, None, OnOk, OnErr, Result, Ok, Err, IsTrue, refl, sym, ◌∙◌, ap, subst, arith}
+use Rattle.outside.specs.History.{History, IsImage, Images, Since, Leaves, after_sync}
 use Rattle.outside.specs.Fuse.{Fusing, IsNoLonger}
 use Rattle.outside.specs.declared.disk.Disk as disks
-use Rattle.journal_disk.specs.Opening.{IsRead, Opens}
+use Rattle.journal_disk.specs.Opening.{IsHeaded, IsRead, Opens}
 use Rattle.journal_disk.proofs.Moments.{Sees, started, one_more, only_synced, since_map}
 use Rattle.journal_disk.proofs.Fronts.{none_stays}
+use Rattle.journal_disk.proofs.Journals.{open_gate}
 
 -- a sync leaves images alone that there were
 synced : {E : Type 0} (s x : History) (answer : Result Unit E) → IsImage s.now s.now.held → OnOk answer (x ≡ after_sync s) → OnErr answer (x ≡ s) → Since s x (Sees (IsImage s.now))
@@ -97,3 +98,11 @@ module _ {D : Type 0} (w : disks.Ghosts D) where
 
   pub unread : (x : Fusing D) → IsRead w x x
   unread x = record { tells = refl; history = refl; own = omega arith; fuse = λ none. none }
+
+  -- an area under a generation isn't closed
+  pub headed : (area : Fusing D) (generation : Option ℕ) (shut : Bool) (n : ℕ) → generation ≡ Some n → IsHeaded w area generation shut → IsHeaded w area (Some n) false
+  headed area generation shut n is h = record {
+    rest = h.rest;
+    head = λ told. h.head told ∙ is;
+    closed = λ told. open_gate (w.history area.disk).now.held n (h.head told ∙ is);
+  }

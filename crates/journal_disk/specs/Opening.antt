@@ -1,13 +1,13 @@
 -- What an opening of two areas finds, and what it leaves.
-use Rattle.std.specs.Prelude.{◌≡◌, ◌⊎◌, ℕ, ◌≤◌, Bool, true, false, List, [], Option, Some, None, Ok, Err, IsTrue}
+use Rattle.std.specs.Prelude.{◌≡◌, ◌⊎◌, ℕ, ◌≤◌, Bool, false, List, Option, None, Ok, Err, IsTrue}
 use Rattle.outside.specs.Causes.{Rose}
 use Rattle.outside.specs.History.{IsImage, Leaves}
 use Rattle.outside.specs.Fuse.{Fusing}
 use Rattle.outside.specs.declared.disk.Disk as disks
 use Rattle.journal_entry.specs.declared.entry.Entry.{Entry}
-use Rattle.journal_disk.specs.AreaText.{head_of, is_shut}
-use Rattle.journal_disk.specs.Areas.{chosen, current_of, first_of, journal_of, second_of}
-use Rattle.journal_disk.specs.Journaling.{IsArea, IsAtRest, IsReady, Journaling, current_in}
+use Rattle.journal_disk.specs.AreaText.{area_of, head_of, is_shut}
+use Rattle.journal_disk.specs.Areas.{area_number, first_of, journal_of, second_of}
+use Rattle.journal_disk.specs.Journaling.{IsAtRest, IsReady, Journaling, current_in}
 use Rattle.journal_disk.specs.declared.fault.RecoverFault.{RecoverFault}
 use Rattle.journal_disk.specs.declared.fault.RecoverFault.TheVariants as faults
 -- ---- one area
@@ -48,3 +48,25 @@ pub record IsBroken {D : Type 0} (w : disks.Ghosts D) (a b a' b' : Fusing D) (wh
   pub damaged : (area place : ℕ) → why ≡ faults.Damaged area place → Tell w a b → journal_of (w.history a.disk).now.held (w.history b.disk).now.held ≡ Err (area, place)
   pub failed : why ≡ faults.Failed → OwnRose w a b a' b'
   pub areas : Opens w a b a' b'
+-- ---- the parts of an opening
+-- an area at rest under this head
+pub record IsHeaded {D : Type 0} (w : disks.Ghosts D) (area : Fusing D) (generation : Option ℕ) (shut : Bool) : Type 0 where
+  pub rest : IsTrue (w.tells area.disk) → IsAtRest (w.history area.disk).now
+  pub head : IsTrue (w.tells area.disk) → head_of (w.history area.disk).now.held ≡ generation
+  pub closed : IsTrue (w.tells area.disk) → is_shut (w.history area.disk).now.held ≡ shut
+-- the journal whose current area was read
+pub record IsOpened {D : Type 0} (w : disks.Ghosts D) (second : Bool) (here there : Fusing D) (generation limit : ℕ) (j : Journaling D) (entries : List Entry) : Type 0 where
+  pub read : IsRead w here j.here
+  pub other : j.there ≡ there
+  pub side : j.second ≡ second
+  pub current : j.fresh ≡ false
+  pub number : j.generation ≡ generation
+  pub bounded : j.limit ≡ limit
+  pub sound : j.failed ≡ false
+  pub ready : IsReady w j entries
+-- why the current area was not read
+pub record IsUnread {D : Type 0} (w : disks.Ghosts D) (second : Bool) (here there here' there' : Fusing D) (why : RecoverFault) : Type 0 where
+  pub read : IsRead w here here'
+  pub other : there' ≡ there
+  pub damaged : (area place : ℕ) → why ≡ faults.Damaged area place → (area ≡ area_number second) × (IsTrue (w.tells here.disk) → area_of (w.history here.disk).now.held ≡ Err place)
+  pub failed : why ≡ faults.Failed → Rose (w.faults here.disk) (w.faults here'.disk)

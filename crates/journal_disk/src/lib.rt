@@ -11,3 +11,4 @@ mod staging;
 
 pub use fault::{AppendFault, RecoverFault};
 pub use journal::Journal;
+pub use recover::{Broken, Recovered};

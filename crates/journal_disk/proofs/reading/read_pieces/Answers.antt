@@ -1,4 +1,4 @@
-use Rattle.std.proofs.Common.{◌≡◌, ◌+◌, ◌-◌, ◌≤◌, ◌<◌, ◌++◌, length, take, drop, min, IsTrue, sym, ◌∙◌, subst, arith}
+use Rattle.std.proofs.Common.{◌≡◌, ◌-◌, ◌≤◌, ◌++◌, length, take, drop, min, IsTrue, sym, ◌∙◌, subst, arith}
 use Rattle.outside.specs.History.{History}
 use Rattle.journal_disk.proofs.Fronts.{none_stays, read_more}
 use Rattle.journal_disk.proofs.reading.read_pieces.Goals as goal
