@@ -5,5 +5,6 @@
 mod closing;
 mod fault;
 mod staging;
+mod text;
 
 pub use fault::{AppendFault, RecoverFault};
