@@ -11,4 +11,5 @@ pub mod Heads
 pub mod Anew
 pub mod Renewed
 pub mod Counts
-pub mod Text
+pub mod TextRead
+pub mod TextWritten

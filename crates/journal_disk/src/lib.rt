@@ -8,6 +8,7 @@ mod journal;
 mod reading;
 mod recover;
 mod staging;
+mod text;
 
 pub use fault::{AppendFault, RecoverFault};
 pub use journal::Journal;
