@@ -1,2 +1,5 @@
 pub mod Sorted
 pub mod Again
+pub mod Added
+pub mod Changed
+pub mod Stay
