@@ -3,3 +3,5 @@ pub mod Again
 pub mod Added
 pub mod Changed
 pub mod Stay
+pub mod Texts
+pub mod Fitting

@@ -10,7 +10,7 @@ use Rattle.fs_model.specs.Words.{path_len, under, put_in_order}
 use Rattle.fs_model.specs.State.{Names, Node, NodeRow, MountRow, File}
 use Rattle.fs_model.specs.Lookups.{row_of, stored_is_yes, is_empty}
 use Rattle.fs_model.specs.NodesEvents.{is_reserved}
-use Rattle.fs_model.specs.Changes.{put_node, key_len, write_locks}
+use Rattle.fs_model.specs.Changes.{put_node, key_len, write_locks, no_names}
 use Rattle.fs_model.proofs.ShortPaths.{path_len-short}
 use Rattle.journal_entry.specs.declared.entry.Entry.{Entry}
 use Rattle.journal_entry.specs.Fields.{is_file_id, is_next, is_no, is_root}
@@ -19,7 +19,7 @@ use Rattle.inode_tree.specs.Rows.{ids_of, differ}
 use Rattle.inode_tree.proofs.Numbers.{both, new_differs}
 use Rattle.master_state.specs.Walks.{has_place}
 use Rattle.master_state.specs.Fits.{fits_in, is_new_id, is_mountable, may_begin}
-use Rattle.master_state.specs.Effect.{effect, counts_in, taken}
+use Rattle.master_state.specs.Effect.{effect, counts_in, taken, after_entries}
 use Rattle.master_state.specs.Plain.{IsPlain, is_plain_file}
 use Rattle.master_state.proofs.Again.{root_first}
 use Rattle.master_state.proofs.Added.{stays_with, stays_risen}
@@ -161,3 +161,25 @@ stay (Entry.Node p false id len done stored pinned) N h plain =
     let place = and_parts (has_place N p) (is_new_id N id) tests.1 in
     file_in N p (record { id = id; len = len; done = done; stored = stored; pinned = pinned }) plain place.0 place.1 (short p (and_parts (is_path p) (nat_lt len (2 ^ 64)) text.0).0) bounds.0 tests.0 bounds.1)
 stay e N h plain = plain
+
+-- so they stay over entries, one after the other
+pub stay_all : (es : List Entry) (N : Names) → list_all is_entry es ≡ true → IsPlain N → IsPlain (after_entries N es)
+stay_all [] N h plain = plain
+stay_all (e ∷ es) N h plain =
+    let split = and_parts (is_entry e) (list_all is_entry es) h in
+    stay_all es (taken e N) split.1 (stay e N split.0 plain)
+
+-- the first names are plain
+pub first_plain : IsPlain no_names
+first_plain = record {
+  sorted = refl;
+  root = refl;
+  rows = refl;
+  ids = refl;
+  mounted = refl;
+  planless = refl;
+  lockless = refl;
+  unseen = refl;
+  file_next = refl;
+  plan_next = refl;
+}
