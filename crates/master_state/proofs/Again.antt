@@ -107,7 +107,7 @@ module _ (nodes : List NodeRow) (mounts : List MountRow) (id plan : ℕ) (plain 
 -- ---- the front of a checkpoint
 
 -- nodes begin with `/`
-root_first : (rows : List NodeRow) → is_sorted path_cmp rows ≡ true → find_node rows [] ≡ Some Node.Directory → (es : List NodeRow) × (rows ≡ ([], Node.Directory) ∷ es)
+pub root_first : (rows : List NodeRow) → is_sorted path_cmp rows ≡ true → find_node rows [] ≡ Some Node.Directory → (es : List NodeRow) × (rows ≡ ([], Node.Directory) ∷ es)
 root_first [] h root = absurd (cc)
 root_first (([], n) ∷ es) h root = (es, λ i. ([], same_node i) ∷ es)
   where

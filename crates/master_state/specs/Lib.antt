@@ -3,5 +3,6 @@ pub mod Built
 pub mod Fits
 pub mod Effect
 pub mod Plain
+pub mod Finishing
 pub mod Laws
 pub mod Examples
