@@ -2,6 +2,7 @@
 //! call leaves the entries so far, with or without the one in hand.
 #![tactic(auto)]
 
+mod checkpoint;
 mod closing;
 mod fault;
 mod journal;
