@@ -9,6 +9,8 @@ mod journal;
 mod reading;
 mod recover;
 mod staging;
+#[cfg(test)]
+mod tests;
 mod text;
 
 pub use fault::{AppendFault, RecoverFault};
