@@ -5,3 +5,4 @@ pub mod Ranges
 pub mod Places
 pub mod Numbers
 pub mod Files
+pub mod Removals

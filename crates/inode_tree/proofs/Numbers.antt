@@ -11,7 +11,7 @@ use Rattle.inode_tree.specs.declared.entry.Entry.{Entry}
 use Rattle.inode_tree.specs.Entries.{node_in, node_rows}
 use Rattle.inode_tree.specs.Rows.{file_id, file_row, file_changed, ids_of, differ, all_differ, node_if}
 
-both : (a b : Bool) → a ≡ true → b ≡ true → (a && b) ≡ true
+pub both : (a b : Bool) → a ≡ true → b ≡ true → (a && b) ≡ true
 both true b h k = k
 both false b h k = h
 

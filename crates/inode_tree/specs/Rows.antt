@@ -9,9 +9,10 @@ use Rattle.fs_model.specs.Changes.{set_file}
 use Rattle.inode_tree.specs.declared.row.Row.{Row}
 use Rattle.inode_tree.specs.declared.row.Walk.{Walk}
 
--- a tree, as its nodes in the order of their paths
+-- a tree, as its nodes in the order of their paths, and how many nodes more there is room for
 pub record TreeView : Type 0 where
   pub nodes : List NodeRow
+  pub room : ℕ
 
 -- what a file's row keeps
 abbrev pub file_in_row : Row → File

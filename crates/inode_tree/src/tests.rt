@@ -184,3 +184,69 @@ fn a_row_is_set_in_place(rt: HostRuntime) -> Result<(), Fail> {
     assert_eq!(rt; tree.len(), 7);
     Ok(())
 }
+
+/// Whether the path of the second text is that of the first, or below it.
+fn is_at_or_below(upper: &str, text: &str) -> bool {
+    upper == "/" || text == upper || text.starts_with(upper) && text[upper.len()..].starts_with("/")
+}
+
+#[test]
+fn a_node_goes_with_all_below_it(rt: HostRuntime) -> Result<(), Fail> {
+    for (removed, left) in [
+        ("/a", 3),
+        ("/a/x", 5),
+        ("/a/x/deep", 6),
+        ("/a/y", 6),
+        ("/a!", 6),
+        ("/ab", 6),
+        ("/none", 7),
+        ("/a/none", 7),
+    ] {
+        let mut tree = sample(rt.alloc())?;
+        tree.remove(&Path::read(rt.alloc(), removed.as_bytes())?);
+        assert_eq!(rt; tree.len(), left, "{removed}");
+        for text in ["/", "/a", "/a!", "/a/x", "/a/x/deep", "/a/y", "/ab"] {
+            let path = Path::read(rt.alloc(), text.as_bytes())?;
+            let stays = !is_at_or_below(removed, text);
+            assert_eq!(rt; tree.contains(&path), stays, "{text} without {removed}");
+        }
+    }
+    Ok(())
+}
+
+/// Puts a node where the tree has a place for it, into room that is made before, and says whether it had.
+fn put(tree: &mut Tree, alloc: Global, text: &str, row: Row) -> Result<bool, Fail> {
+    let path = Path::read(alloc, text.as_bytes())?;
+    tree.reserve(1)?;
+    let Walk::Found(_) = tree.walk_above(&path) else {
+        return Ok(false);
+    };
+    if tree.contains(&path) {
+        return Ok(false);
+    }
+    if tree.path_of(alloc, FileId(row.id))?.is_some() {
+        return Ok(false);
+    }
+    tree.put(path, row);
+    Ok(true)
+}
+
+#[test]
+fn nodes_for_which_there_is_room_come_in(rt: HostRuntime) -> Result<(), Fail> {
+    let mut tree = sample(rt.alloc())?;
+    for (text, row, added) in [
+        ("/ab/w", file(9), true),
+        ("/a/z", DIRECTORY, true),
+        ("/a/z", DIRECTORY, false),
+        ("/none/z", DIRECTORY, false),
+        ("/a/z/f", file(9), false),
+    ] {
+        assert_eq!(rt; put(&mut tree, rt.alloc(), text, row)?, added, "{text}");
+    }
+    assert_eq!(rt; tree.len(), 9);
+    assert_eq!(rt;
+        listed(&tree, rt.alloc(), "/a")?.as_slice(),
+        "x y z".as_bytes()
+    );
+    Ok(())
+}

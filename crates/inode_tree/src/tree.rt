@@ -1,11 +1,12 @@
 //! The tree of names.
 
-ghost use Rattle.std.specs.Prelude.{◌≡◌, ◌∷◌, [], true, false, Some, None, length, IfOk, OnOk, OnErr, IfNone, IfSome, is_some, option_map};
+ghost use Rattle.std.specs.Prelude.{◌≡◌, ◌≤◌, ◌<◌, ◌+◌, ◌∷◌, [], true, false, Some, None, length, IfOk, OnOk, OnErr, IfNone, IfSome, is_some, not, option_map};
 ghost use Rattle.std.specs.Bool.{OnFalse};
 ghost use Rattle.fs_model.specs.State.{Node, File};
 ghost use Rattle.fs_model.specs.Lookups as machine;
 ghost use Rattle.fs_model.specs.Lookups.{find_node, walk_nodes, walk_above, names_in};
-ghost use Rattle.fs_model.specs.Changes.{put_node};
+ghost use Rattle.fs_model.specs.Words.{under};
+ghost use Rattle.fs_model.specs.Changes.{put_node, keep_nodes};
 ghost use Rattle.inode_tree.specs.Rows.{node_of, directory_row, row_of_node, leads_to, IfFound, OnFound, OnBlocked, file_row, file_id, file_changed};
 
 use crate::entry::{
@@ -19,20 +20,21 @@ use std::alloc::{AllocError, Global};
 use std::marker::Model;
 
 /// The tree of names: directories and files by path, with `/` there from the start. A contract sees its nodes
-/// as the list of paths with nodes, in the order of the paths. No two files have one number.
+/// as the list of paths with nodes, in the order of the paths, and how many nodes more there is room for. No two
+/// files have one number.
 #[derive(Debug, Drop)]
 pub struct Tree {
     entries: Vec<Entry>,
 }
 
 impl Model for Tree {
-    ghost use Rattle.std.specs.Prelude.{◌≡◌, true};
+    ghost use Rattle.std.specs.Prelude.{◌≡◌, ◌-◌, true, vec_len, vec_capacity};
     ghost use Rattle.inode_tree.specs.Rows.{TreeView, all_differ, ids_of};
     ghost use Rattle.inode_tree.specs.Entries.{node_rows, in_order};
 
     ghost Value = { TreeView };
 
-    ghost view = { λ t. record { nodes = node_rows t.entries.items } };
+    ghost view = { λ t. record { nodes = node_rows t.entries.items; room = vec_capacity t.entries - vec_len t.entries } };
 
     ghost invariant = { λ t. (in_order t.entries.items ≡ true) × (all_differ (ids_of (node_rows t.entries.items)) ≡ true) };
 }
@@ -139,10 +141,37 @@ impl Tree {
         ensures err { OnErr result (self.new.nodes ≡ self.old.nodes) }
     {
         let path = path.clone()?;
+        self.reserve(1)?;
+        self.put(path, row);
+        Ok(())
+    }
+
+    /// Makes room for so many nodes more, so that `put` adds them without memory.
+    ///
+    /// An `Err` is want of memory. The nodes stay as they are, and there is never less room than before.
+    pub fn reserve(&mut self, additional: usize) -> Result<(), AllocError>
+        ensures nodes { self.new.nodes ≡ self.old.nodes }
+        ensures ok { OnOk result (additional ≤ self.new.room) }
+        ensures room { self.old.room ≤ self.new.room }
+    {
+        self.entries.reserve(additional)
+    }
+
+    /// Adds a node as `add` does, where there is room for it; takes no memory.
+    pub fn put(&mut self, path: Path, row: Row)
+        requires room { 0 < self.old.room }
+        requires absent { walk_nodes self.old.nodes path ≡ machine.Walk.Absent }
+        requires parent { walk_above self.old.nodes path ≡ machine.Walk.Found Node.Directory }
+        requires new_id { row.dir ≡ false → file_row self.old.nodes row.id ≡ None }
+        ensures nodes { self.new.nodes ≡ put_node path (node_of row) self.old.nodes }
+        ensures room { self.new.room + 1 ≡ self.old.room }
+    {
         let inode = Inode::of(row);
         let at = place_of(&self.entries, path.as_slice());
-        self.entries.insert(at, Entry { path, inode })?;
-        Ok(())
+        match self.entries.insert(at, Entry { path, inode }) {
+            Ok(()) => {}
+            Err(_) => unreachable!(),
+        }
     }
 
     /// Puts the row in place of that of the node at the path; takes no memory. The row is of the node's kind, a
@@ -150,12 +179,21 @@ impl Tree {
     pub fn set(&mut self, path: &Path, row: Row)
         requires same { option_map file_id (find_node self.old.nodes path.now) ≡ Some (file_id (node_of row)) }
         ensures put { self.new.nodes ≡ put_node path.now (node_of row) self.old.nodes }
+        ensures room { self.new.room ≡ self.old.room }
 
         // A file that is set is the one with its number, and no other has it.
         ensures file { (f : File) (change : File → File) → find_node self.old.nodes path.now ≡ Some (Node.IsFile f) → node_of row ≡ Node.IsFile (change f) → self.new.nodes ≡ file_changed f.id change self.old.nodes }
     {
         let at = place_of(&self.entries, path.as_slice());
         self.entries[at].inode = Inode::of(row);
+    }
+
+    /// Takes the node at the path out, with all below it; takes no memory. All other nodes stay as they are.
+    pub fn remove(&mut self, path: &Path)
+        ensures nodes { self.new.nodes ≡ keep_nodes (λ x. not (under x path.now)) self.old.nodes }
+        ensures room { self.old.room ≤ self.new.room }
+    {
+        self.entries.retain(|entry| !entry.path.under(path));
     }
 
     /// The names right below the path, in the order of their bytes. It looks at the nodes below the path alone.

@@ -1,14 +1,14 @@
 -- What each call of an append leaves.
-use Rattle.std.proofs.Common.{◌≡◌, ◌⊎◌, inl, inr, ℕ, ◌+◌, ◌≤◌, List, [], ◌∷◌, ◌++◌, length, take, drop, get_or, true, OnOk, Result, Ok, Err, refl, sym, ◌∙◌, ap, subst, arith, append_assoc, length-append}
+use Rattle.std.proofs.Common.{◌≡◌, inl, inr, ℕ, ◌+◌, ◌≤◌, List, [], ◌∷◌, ◌++◌, length, take, drop, get_or, true, OnOk, Result, Ok, Err, refl, sym, ◌∙◌, ap, subst, arith, append_assoc, length-append}
 use Rattle.std.proofs.lemmas.List.{take_at, drop_at, drop_more, append-nil}
 use Rattle.std.proofs.lemmas.List.Prefix.{at_from_reads, at_reads}
-use Rattle.outside.specs.History.{Moment, History, IsOutside, IsImage, overwritten, written, after_write, after_sync, Since}
+use Rattle.outside.specs.History.{History, IsOutside, overwritten, written, after_write, after_sync, Since}
 use Rattle.journal_entry.specs.declared.entry.Entry.{Entry}
 use Rattle.journal_entry.specs.EntryText.{entry_text, is_entry}
 use Rattle.journal_disk.specs.AreaText.{next_gate}
-use Rattle.journal_disk.specs.Journaling.{IsArea, IsAtRest}
+use Rattle.journal_disk.specs.Journaling.{IsArea}
 use Rattle.journal_disk.specs.Staging.{IsStage, IsResting, IsAreaOrMore}
-use Rattle.journal_disk.proofs.Moments.{Sees, started, since_map, since_then, front_stands, only_synced}
+use Rattle.journal_disk.proofs.Moments.{Sees, since_map, since_then, front_stands, only_synced}
 use Rattle.journal_disk.proofs.Area.{Lead, lead_of, closed, opened, either}
 use Rattle.journal_disk.proofs.Stage.{stage_has}
 

@@ -1,5 +1,5 @@
 -- What stands before an area's closed gate, and what the area is with other bytes from that gate on.
-use Rattle.std.proofs.Common.{◌≡◌, ◌≢◌, ◌⊎◌, inl, inr, ⊎_elim, ℕ, ◌+◌, ◌≤◌, ◌<◌, List, [], ◌∷◌, ◌++◌, length, take, drop, Option, Some, None, Result, Ok, Err, true, refl, sym, ◌∙◌, ap, arith, append_assoc, length-append, take-append-drop, length-drop}
+use Rattle.std.proofs.Common.{◌≡◌, ◌≢◌, ◌⊎◌, inl, inr, ⊎_elim, ℕ, ◌≤◌, ◌<◌, List, [], ◌∷◌, ◌++◌, length, take, drop, Some, Ok, true, refl, sym, ◌∙◌, ap, arith, append_assoc, length-append, take-append-drop, length-drop}
 use Rattle.std.specs.Prelude.{nat_le}
 use Rattle.std.proofs.lemmas.List.{append-nil, take_at, drop_at, length-take-le}
 use Rattle.std.proofs.lemmas.Bool.{cases_eq, cases_lt, le-leb}

@@ -3,6 +3,9 @@ pub mod Walk
 pub mod Area
 pub mod Stage
 pub mod Append
+pub mod Journals
+pub mod Fronts
+pub mod Openings
 pub mod Shut
 pub mod Heads
 pub mod Anew
@@ -10,3 +13,4 @@ pub mod Renewed
 pub mod Counts
 pub mod TextRead
 pub mod TextWritten
+pub mod Checkpoints

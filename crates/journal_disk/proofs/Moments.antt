@@ -1,8 +1,8 @@
 -- How a run of calls goes on, and what the images of its moments are.
-use Rattle.std.proofs.Common.{◌≡◌, ◌⊎◌, inl, inr, ⊎_elim, ℕ, ◌+◌, ◌≤◌, ◌<◌, Bool, true, false, List, [], ◌∷◌, ◌++◌, length, take, drop, get_or, OnOk, OnErr, Result, Ok, Err, refl, sym, ◌∙◌, ap, subst, arith, append_assoc}
+use Rattle.std.proofs.Common.{◌≡◌, ℕ, ◌≤◌, ◌<◌, Bool, true, false, List, [], ◌∷◌, ◌++◌, length, drop, refl, sym, ◌∙◌, ap, subst, arith, append_assoc}
 use Rattle.std.proofs.lemmas.List.{ext_get_or}
 use Rattle.std.proofs.lemmas.List.Prefix.{front_from_reads, front_reads, front_fits}
-use Rattle.outside.specs.History.{Moment, History, IsOutside, IsImage, IsTorn, MayWrite, Each, Since, Images, Leaves, moments, after_write, after_sync, overwritten, written, greatest_end}
+use Rattle.outside.specs.History.{Moment, History, IsOutside, IsImage, Each, Since, Images, Leaves, moments, greatest_end}
 use Rattle.journal_disk.specs.Areas.{first_of, second_of}
 
 -- each image of the moment has Q

@@ -1,5 +1,5 @@
 -- The moments of a write with a sync behind it.
-use Rattle.std.proofs.Common.{◌≡◌, ◌⊎◌, inl, inr, ⊎_elim, ℕ, ◌+◌, List, length, OnOk, OnErr, Result, Ok, Err, refl, sym, ◌∙◌, ap, subst}
+use Rattle.std.proofs.Common.{◌≡◌, inl, inr, ⊎_elim, ℕ, List, length, OnOk, OnErr, Result, Ok, Err, refl, sym, ◌∙◌, ap, subst}
 use Rattle.outside.specs.History.{Moment, History, MayWrite, Since, after_write, after_sync, overwritten, written}
 use Rattle.journal_disk.specs.Staging.{IsStage}
 use Rattle.journal_disk.proofs.Moments.{started, one_more}

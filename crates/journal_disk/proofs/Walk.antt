@@ -1,8 +1,7 @@
 -- Laws of reading an area.
-use Rattle.std.proofs.Common.{◌≡◌, ◌≢◌, ◌⊎◌, inl, inr, ⊎_elim, ℕ, zero, suc, ◌+◌, ◌≤◌, ◌<◌, List, [], ◌∷◌, ◌++◌, length, take, drop, get_or, Option, Some, None, Result, Ok, Err, Bool, true, false, refl, sym, ◌∙◌, ap, subst, arith, append_assoc, length-append, cond, add-zero, take-append-drop}
-use Rattle.std.specs.Prelude.{nat_eq, sum_by}
-use Rattle.std.specs.List.{flat_map}
-use Rattle.std.proofs.lemmas.List.{append-nil, drop_at, take-append-le, drop_more}
+use Rattle.std.proofs.Common.{◌≡◌, ◌≢◌, ⊎_elim, ℕ, zero, suc, ◌+◌, ◌≤◌, ◌<◌, List, [], ◌∷◌, ◌++◌, length, take, drop, get_or, Option, Some, None, Ok, Err, true, false, refl, sym, ◌∙◌, ap, arith, append_assoc, cond, add-zero, take-append-drop}
+use Rattle.std.specs.Prelude.{nat_eq}
+use Rattle.std.proofs.lemmas.List.{take-append-le, drop_more}
 use Rattle.std.proofs.lemmas.Bool.{cases_eq}
 use Rattle.std.proofs.lemmas.Bool.Decides.{nat_tests}
 use Rattle.std.proofs.lemmas.Grind.{common_steps}
@@ -10,7 +9,7 @@ use Rattle.journal_entry.specs.declared.entry.Entry.{Entry}
 use Rattle.journal_entry.specs.EntryText.{entry_text, is_entry}
 use Rattle.journal_entry.specs.Reading.{entry_at}
 use Rattle.journal_entry.proofs.TextLaws.{text_again, no_further}
-use Rattle.journal_disk.specs.AreaText.{Read, with_front, behind, walk, area_of}
+use Rattle.journal_disk.specs.AreaText.{Read, with_front, behind, walk}
 
 -- what is read depends on the bytes that it takes alone
 pub entry_local : (xs ys zs : List ℕ) (e : Entry) (n : ℕ) → entry_at (xs ++ ys) ≡ Some (e, n) → n ≤ length xs → entry_at (xs ++ zs) ≡ Some (e, n)

@@ -1,13 +1,13 @@
 -- A journal over two areas: what it stands for, and what its calls leave.
 use Rattle.std.specs.Prelude.{◌≡◌, ◌⊎◌, ℕ, ◌+◌, ◌-◌, ◌/◌, ◌^◌, ◌<◌, ◌≤◌, Bool, true, false, not, List, [], ◌∷◌, ◌++◌, length, Option, Some, None, Ok, IsTrue, if◌then◌else◌}
 use Rattle.outside.specs.Causes.{Rose}
-use Rattle.outside.specs.History.{History, Leaves, Moment, Spare}
+use Rattle.outside.specs.History.{Leaves, Moment, Spare}
 use Rattle.outside.specs.Fuse.{Fusing, IsBelow, IsNoLonger}
 use Rattle.outside.specs.declared.disk.Disk as disks
 use Rattle.journal_entry.specs.declared.entry.Entry.{Entry}
 use Rattle.journal_entry.specs.EntryText.{entry_text}
 use Rattle.journal_disk.specs.AreaText.{area_of, gate_behind, head_of, is_shut, next_gate}
-use Rattle.journal_disk.specs.Areas.{Current, IsBeforeOrAfter, chosen, first_of, second_of}
+use Rattle.journal_disk.specs.Areas.{Current, chosen, first_of, second_of}
 -- ---- the journal
 -- the current area and the other one, whether the current one is area 1, whether either head gate is there and closed, whether no area is current, the generation of the current area, the place of its closed gate, the greatest length of an area in bytes, up to which place an append takes no memory, and whether a call has failed
 pub record Journaling (D : Type 0) : Type 0 where

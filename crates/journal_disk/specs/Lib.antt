@@ -3,3 +3,4 @@ pub mod Areas
 pub mod Journaling
 pub mod Staging
 pub mod Closing
+pub mod Opening

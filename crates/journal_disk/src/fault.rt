@@ -5,7 +5,7 @@ ghost use Rattle.journal_disk.specs.declared.fault.AppendFault.TheVariants as ap
 ghost use Rattle.journal_disk.specs.declared.fault.RecoverFault.TheVariants as recover;
 
 use outside::stream::Fault;
-use std::alloc::AllocError;
+use std::alloc::{AllocError, AllocFailed};
 
 /// Why an entry or a checkpoint was not acknowledged.
 #[derive(Clone, Copy, Debug, PartialEq, Eq)]
@@ -51,5 +51,13 @@ impl From<Fault> for RecoverFault {
 
     fn from(_fault: Fault) -> RecoverFault {
         RecoverFault::Failed
+    }
+}
+
+impl<T: Drop> From<AllocFailed<T>> for RecoverFault {
+    ghost from_gives = { λ _ fault. fault ≡ recover.Memory };
+
+    fn from(_failed: AllocFailed<T>) -> RecoverFault {
+        RecoverFault::Memory
     }
 }

@@ -7,3 +7,5 @@ pub mod NamedMedia
 pub mod Places
 pub mod Lending
 pub mod NewMedia
+pub mod DiskLogs
+pub mod Disks

@@ -7,6 +7,7 @@ use Rattle.outside_mem.specs.declared.calls.Calls.{Calls}
 use Rattle.outside_mem.specs.declared.calls.StoreCalls.{StoreCalls}
 use Rattle.outside_mem.specs.declared.calls.ChangingCalls.{ChangingCalls}
 use Rattle.outside_mem.specs.declared.calls.ByNumber.{ByNumber}
+use Rattle.outside_mem.specs.declared.calls.DiskCalls.{DiskCalls}
 
 -- the next call of a kind is to fail
 abbrev pub fails_next : Calls → Bool
@@ -56,6 +57,13 @@ pub record IsFresh (calls : StoreCalls) : Type 0 where
   pub clears : IsUnused calls.clears.failing calls.clears.count
   pub polls : (calls.failing_polls.items ≡ []) × (calls.waiting_polls.items ≡ [])
   pub puts : calls.failing_puts.items ≡ []
+
+-- no call of a disk is to fail, and there were none
+pub record AreUnused (calls : DiskCalls) : Type 0 where
+  pub lens : IsUnused calls.lens.failing calls.lens.count
+  pub reads : IsUnused calls.reads.failing calls.reads.count
+  pub writes : IsUnused calls.writes.failing calls.writes.count
+  pub syncs : IsUnused calls.syncs.failing calls.syncs.count
 
 -- no poll of a reader is to fail or to wait
 abbrev pub are_polls_quiet : StoreCalls → Bool

@@ -7,3 +7,7 @@ pub mod Calls
 pub mod Stored
 pub mod Fates
 pub mod Named
+pub mod DiskHistory
+pub mod DiskLogs
+pub mod DiskLaws
+pub mod Disks

@@ -1,7 +1,7 @@
-//! Which calls of a store in memory are to fail, and how many of each kind there were.
+//! Which calls of a store or of a disk in memory are to fail, and how many of each kind there were.
 
 ghost use Rattle.std.specs.Prelude.{◌≡◌, [], IfOk, IsTrue, ℕ};
-ghost use Rattle.outside_mem.specs.Calls.{IsFresh, fails_next, after_call, change_fails, change_happens, after_change, is_listed_for, is_none_listed};
+ghost use Rattle.outside_mem.specs.Calls.{AreUnused, IsFresh, fails_next, after_call, change_fails, change_happens, after_change, is_listed_for, is_none_listed};
 ghost use Rattle.outside_mem.specs.Failures.{is_failing, is_quiet, IsQuiet};
 
 use crate::failures::Failing;
@@ -60,6 +60,17 @@ pub struct StoreCalls {
     pub waiting_polls: Vec<ByNumber>,
     /// By the number of its `begin_write`, the puts of a writer that fail.
     pub failing_puts: Vec<ByNumber>,
+}
+
+/// Which calls of a disk are to fail, and how many there were.
+#[derive(Debug, Drop)]
+pub struct DiskCalls {
+    pub lens: Calls,
+    pub reads: Calls,
+    /// Of the writes that fail, those that are listed as happening are torn, and the others don't
+    /// begin.
+    pub writes: ChangingCalls,
+    pub syncs: Calls,
 }
 
 impl Calls {
@@ -130,6 +141,20 @@ impl StoreCalls {
             failing_polls: Vec::new(alloc),
             waiting_polls: Vec::new(alloc),
             failing_puts: Vec::new(alloc),
+        }
+    }
+}
+
+impl DiskCalls {
+    /// There were none, and none fails; takes no memory.
+    pub fn new(alloc: Global) -> DiskCalls
+        ensures { AreUnused result }
+    {
+        DiskCalls {
+            lens: Calls::new(alloc),
+            reads: Calls::new(alloc),
+            writes: ChangingCalls::new(alloc),
+            syncs: Calls::new(alloc),
         }
     }
 }

@@ -1,9 +1,10 @@
 //! Which calls are to fail.
 
-ghost use Rattle.std.specs.Prelude.{◌≡◌, [], IfOk, None};
+ghost use Rattle.std.specs.Prelude.{◌≡◌, [], IfOk, None, Ok, false, is_err};
 ghost use Rattle.outside_mem.specs.Counts.{counted};
 ghost use Rattle.outside_mem.specs.Failures.{is_failing};
 
+use outside::stream::Fault;
 use std::alloc::{AllocError, Global};
 
 /// The calls of one kind that are to fail, by their numbers. The first call has the number 1.
@@ -67,4 +68,15 @@ pub(crate) fn counted(count: u64, happened: bool) -> u64
         return count.saturating_add(1);
     }
     count
+}
+
+/// A value, or a fault.
+pub(crate) fn ended<T: Drop>(value: T, fails: bool) -> Result<T, Fault>
+    ensures ok { fails ≡ false → result ≡ Ok value }
+    ensures err { is_err result ≡ fails }
+{
+    if fails {
+        return Err(Fault);
+    }
+    Ok(value)
 }

@@ -4,6 +4,8 @@
 #![tactic(auto)]
 
 mod calls;
+mod disk;
+mod disk_log;
 mod failures;
 mod inputs;
 mod lists;
@@ -19,7 +21,9 @@ mod tests;
 mod whole;
 mod writers;
 
-pub use calls::{ByNumber, Calls, ChangingCalls, StoreCalls};
+pub use calls::{ByNumber, Calls, ChangingCalls, DiskCalls, StoreCalls};
+pub use disk::MemDisk;
+pub use disk_log::DiskCall;
 pub use failures::Failing;
 pub use inputs::MemSource;
 pub use named::NamedStore;

@@ -11,7 +11,7 @@ ghost use Rattle.outside_mem.specs.Readers.{is_steady_reader, unread_of};
 ghost use Rattle.outside_mem.specs.Stored.{held, renamed, without};
 
 use crate::calls::{StoreCalls, listed_for};
-use crate::failures::counted;
+use crate::failures::{counted, ended};
 use crate::lists;
 use crate::readers::MemReader;
 use crate::writers::{MemObject, MemWriter};
@@ -41,17 +41,6 @@ pub struct MemObjects {
     /// How often an object changed. Where it stands at 2^64 - 1, each call that changes objects
     /// fails and changes none.
     pub changes: u64,
-}
-
-/// A value, or a fault.
-fn ended<T: Drop>(value: T, fails: bool) -> Result<T, Fault>
-    ensures ok { fails ≡ false → result ≡ Ok value }
-    ensures err { is_err result ≡ fails }
-{
-    if fails {
-        return Err(Fault);
-    }
-    Ok(value)
 }
 
 /// A reader over a copy of a range, with the polls that are listed for the newest `begin_read`. An

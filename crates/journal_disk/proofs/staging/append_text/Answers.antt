@@ -1,9 +1,7 @@
 -- What the four calls of an append leave.
-use Rattle.std.proofs.Common.{◌≡◌, ℕ, ◌+◌, List, [], ◌∷◌, ◌++◌, length, IsTrue, sym, ◌∙◌, ap, subst, arith}
+use Rattle.std.proofs.Common.{ℕ, ◌+◌, List, length, IsTrue, sym, ◌∙◌, ap, subst, arith}
 use Rattle.outside.specs.History.{History, Since, after_sync, written}
-use Rattle.journal_entry.specs.EntryText.{entry_text}
-use Rattle.journal_disk.specs.AreaText.{next_gate}
-use Rattle.journal_disk.specs.Staging.{IsStage, IsPiece}
+use Rattle.journal_disk.specs.Staging.{IsStage}
 use Rattle.journal_disk.proofs.Append.{long, long_staged, first_stage, second_stage, rest_last}
 use Rattle.journal_disk.proofs.staging.append_text.Goals as goal
 

@@ -1,0 +1,7 @@
+pub mod Sorted
+pub mod Again
+pub mod Added
+pub mod Changed
+pub mod Stay
+pub mod Texts
+pub mod Fitting
