@@ -9,7 +9,7 @@ use Rattle.outside.specs.Keys.{KeyNames, key_eq}
 use Rattle.outside.specs.Contents.{Contents, IsSame, put_at}
 use Rattle.outside.specs.declared.objects.Objects as objects
 use Rattle.outside.specs.declared.objects.ObjectWrite as writes
-use Rattle.outside.proofs.Stored.{key_self}
+use Rattle.outside.proofs.Deciding.{key_self}
 use Rattle.tier_book.specs.Rows.{room_numbered, row_of}
 use Rattle.cluster_core.specs.Tiers.{ChangesAt, IsPut, IsPutOrNot, object_key}
 use Rattle.cluster_core.specs.Nodes.{commit_as, node_row}

@@ -8,7 +8,7 @@ use Rattle.outside.specs.Keys.{KeyNames, key_eq}
 use Rattle.outside.specs.Contents.{Contents, IsSame, put_at}
 use Rattle.outside.specs.declared.objects.Objects as objects
 use Rattle.outside.specs.declared.objects.ObjectWrite as writes
-use Rattle.outside.proofs.Stored.{key_same}
+use Rattle.outside.proofs.Deciding.{key_same}
 use Rattle.cluster_core.specs.Tiers.{ChangesAt, IsPut, IsPutOrNot, Keeps, object_key}
 use Rattle.cluster_core.specs.Stands.{HasObject, TierTells}
 

@@ -3,13 +3,13 @@
 
 ghost use Rattle.std.specs.Prelude.{◌≡◌, ◌≤◌, [], IfOk, IfSome, IsOk, IsSomeAnd, IsTrue, is_some, None, Some, option_map, refl};
 ghost use Rattle.outside.specs.Causes.{Rose};
-ghost use Rattle.outside.specs.Named.{shelf_of, told_of};
 ghost use Rattle.outside.specs.Shelf.{EachNamed, HasShape, KeepsBut, TellsHeld, all_names, are_distinct, name_lists};
 ghost use Rattle.outside.specs.Streams.{Pulls, Pushes};
+ghost use Rattle.outside_mem.specs.Named.{shelf_of, told_of};
 ghost use Rattle.node_main.specs.Files.{file_left, is_named};
 
 use outside::media::{Media, MediaNames};
-use outside::memory::{MemObjects, MemShelf};
+use outside_mem::{MemObjects, MemShelf};
 use outside::stream::{Fault, Sink, Source};
 use outside::world::{Fail, World};
 use std::alloc::Global;

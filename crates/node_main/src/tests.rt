@@ -1,7 +1,7 @@
 ghost use Rattle.std.specs.Prelude.{◌≡◌, IfOk, None};
 
 use crate::run::run;
-use outside::memory::{ByNumber, Failing, MemObjects, MemWorld};
+use outside_mem::{ByNumber, Failing, MemObjects, MemWorld};
 use std::alloc::Global;
 use std::test::Fail;
 

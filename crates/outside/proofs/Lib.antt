@@ -1,13 +1,5 @@
 pub mod Texts
-pub mod Fronts
 pub mod Known
-pub mod Stored
-pub mod Firsts
-pub mod Fates
+pub mod Deciding
 pub mod NamesApart
-pub mod Named
-pub mod NamedMedia
-pub mod Places
-pub mod Lending
-pub mod NewMedia
 pub mod Returned

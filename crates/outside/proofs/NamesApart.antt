@@ -5,7 +5,7 @@ use Rattle.std.specs.Str.{bytes_eq}
 use Rattle.std.specs.Cmp.Lexicographic.{bytes_decides, nat_list_eq_equiv}
 use Rattle.std.proofs.lemmas.List.Folds.{list_any-append}
 use Rattle.outside.specs.Shelf.{are_distinct, is_among}
-use Rattle.outside.proofs.Stored.{both_true, or_true}
+use Rattle.outside.proofs.Deciding.{both_true, or_true}
 
 pub name_same : (a b : List ℕ) → bytes_eq a b ≡ true → a ≡ b
 name_same a b = (bytes_decides a b).0

@@ -6,7 +6,7 @@ use Rattle.outside.specs.Contents.{Contents, IsSame}
 use Rattle.outside.specs.Shelf.{EachNamed, KeepsBut, NameLists, Shelf, TellsHeld, all_names, is_among, tier_names, under}
 use Rattle.outside.specs.declared.media.Media.{Media}
 use Rattle.outside.proofs.NamesApart.{among-append, either_true, name_same}
-use Rattle.outside.proofs.Stored.{true_or_false}
+use Rattle.outside.proofs.Deciding.{true_or_false}
 
 pub same_then : (a b c : Option Contents) → IsSame a b → IsSame b c → IsSame a c
 same_then None None c h k = k

@@ -18,7 +18,7 @@ use fs_model::items::Items;
 use fs_model::setup::Setup;
 use fs_model::stop::Stop;
 use outside::media::Media;
-use outside::memory::{MemObjects, MemSink};
+use outside_mem::{MemObjects, MemSink};
 use script_text::read::{ScriptFault, read_script};
 use std::alloc::{AllocError, Global};
 use std::test::Fail;

@@ -13,7 +13,7 @@ use fs_model::path::Path;
 use fs_model::reply::{Refusal, Reply, Which};
 use fs_model::setup::Setup;
 use outside::media::Media;
-use outside::memory::{MemObjects, MemReader, MemWriter};
+use outside_mem::{MemObjects, MemReader, MemWriter};
 use std::alloc::{AllocError, Global};
 use std::test::Fail;
 

@@ -2,7 +2,7 @@
 
 use crate::node::{Finished, Node, Opened, Space};
 use fs_model::numbers::{BlockNo, FileId, TierNo};
-use outside::memory::{Failing, MemObjects, MemReader, MemWriter};
+use outside_mem::{Failing, MemObjects, MemReader, MemWriter};
 use outside::objects::{Got, ObjectRead, ObjectWrite};
 use outside::world::Fail;
 use std::alloc::{AllocError, Global};

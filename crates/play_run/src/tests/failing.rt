@@ -2,7 +2,7 @@
 
 use super::{AREA, Outcome, played, script_of, text_in};
 use outside::media::Media;
-use outside::memory::{ByNumber, Failing, MemObjects, MemSink};
+use outside_mem::{ByNumber, Failing, MemObjects, MemSink};
 use std::alloc::{AllocError, Global};
 use std::test::Fail;
 

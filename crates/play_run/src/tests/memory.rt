@@ -7,7 +7,7 @@
 use super::{AREA, Outcome, answered, played, script_of};
 use fs_model::stop::Stop;
 use outside::media::Media;
-use outside::memory::{MemObjects, MemSink};
+use outside_mem::{MemObjects, MemSink};
 use script_text::read::ScriptFault;
 use std::alloc::Global;
 use std::test::Fail;

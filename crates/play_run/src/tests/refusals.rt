@@ -1,7 +1,7 @@
 //! What is answered to events that can't be done.
 
 use super::{answered, told};
-use outside::memory::MemObjects;
+use outside_mem::MemObjects;
 use std::test::Fail;
 
 /// More bytes than fit, and more than there are.

@@ -5,7 +5,7 @@ use super::scripts::TWO_BLOCKS;
 use super::{AREA, Outcome, played, script_of};
 use fs_model::stop::Stop;
 use outside::media::Media;
-use outside::memory::{Failing, MemObject, MemObjects, MemSink};
+use outside_mem::{Failing, MemObject, MemObjects, MemSink};
 use script_text::read::ScriptFault;
 use std::alloc::{AllocError, Global};
 use std::test::Fail;

@@ -1,0 +1,16 @@
+pub mod Moments
+pub mod Walk
+pub mod Area
+pub mod Stage
+pub mod Append
+pub mod Journals
+pub mod Fronts
+pub mod Openings
+pub mod Shut
+pub mod Heads
+pub mod Anew
+pub mod Renewed
+pub mod Counts
+pub mod TextRead
+pub mod TextWritten
+pub mod Checkpoints

@@ -1,0 +1,11 @@
+pub mod Fronts
+pub mod Stored
+pub mod Firsts
+pub mod Fates
+pub mod NamedStores
+pub mod NamedMedia
+pub mod Places
+pub mod Lending
+pub mod NewMedia
+pub mod DiskLogs
+pub mod Disks

@@ -1,0 +1,13 @@
+pub mod Counts
+pub mod Failures
+pub mod Held
+pub mod Fakes
+pub mod Readers
+pub mod Calls
+pub mod Stored
+pub mod Fates
+pub mod Named
+pub mod DiskHistory
+pub mod DiskLogs
+pub mod DiskLaws
+pub mod Disks

@@ -1,0 +1,35 @@
+//! The outside in memory, for tests and for runs that reach nothing. Each of these keeps what it
+//! holds and tells all of it, counts its calls and its failures, and fails the calls that it was
+//! told to fail.
+#![tactic(auto)]
+
+mod calls;
+mod disk;
+mod disk_log;
+mod failures;
+mod inputs;
+mod lists;
+mod named;
+mod outputs;
+mod readers;
+mod shelf;
+mod store;
+#[cfg(test)]
+mod store_tests;
+#[cfg(test)]
+mod tests;
+mod whole;
+mod writers;
+
+pub use calls::{ByNumber, Calls, ChangingCalls, DiskCalls, StoreCalls};
+pub use disk::MemDisk;
+pub use disk_log::DiskCall;
+pub use failures::Failing;
+pub use inputs::MemSource;
+pub use named::NamedStore;
+pub use outputs::MemSink;
+pub use readers::MemReader;
+pub use shelf::MemShelf;
+pub use store::MemObjects;
+pub use whole::{Input, MemWorld};
+pub use writers::{MemObject, MemWriter};
