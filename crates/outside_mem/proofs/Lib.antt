@@ -8,4 +8,5 @@ pub mod Places
 pub mod Lending
 pub mod NewMedia
 pub mod DiskLogs
+pub mod Moments
 pub mod Disks

@@ -10,4 +10,5 @@ pub mod Named
 pub mod DiskHistory
 pub mod DiskLogs
 pub mod DiskLaws
+pub mod Moments
 pub mod Disks

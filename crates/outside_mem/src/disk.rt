@@ -7,10 +7,12 @@ ghost use Rattle.outside_mem.specs.Counts.{counted};
 ghost use Rattle.outside_mem.specs.Calls.{AreUnused, after_call, after_change, fails_next};
 ghost use Rattle.outside_mem.specs.DiskHistory.{spent};
 ghost use Rattle.outside_mem.specs.DiskLaws.{read_image};
+ghost use Rattle.outside_mem.specs.Moments.{moment_at};
 
 use crate::calls::DiskCalls;
 use crate::disk_log::{DiskLog, read_from};
 use crate::failures::{counted, ended};
+use crate::moment::DiskMoment;
 use outside::disk::Disk;
 use outside::stream::Fault;
 use std::alloc::{AllocError, Global};
@@ -59,6 +61,21 @@ impl MemDisk {
         ensures { result.items ≡ (disk_history self).now.held }
     {
         self.log.into_held()
+    }
+
+    /// How many writes and syncs it has kept: the number of the moment now.
+    pub fn clock(&self) -> u64
+        ensures { result ≡ length (disk_history self.now).past }
+    {
+        self.log.clock()
+    }
+
+    /// What it held at the moment of a number, where there was one; 0 is that of the first bytes. An
+    /// `Err` is want of memory.
+    pub fn moment(&self, number: u64) -> Result<Option<DiskMoment>, AllocError>
+        ensures { IfOk result (λ moment. moment ≡ moment_at (disk_history self.now) number) }
+    {
+        self.log.moment(number)
     }
 
     /// Writes a piece; its clauses tell what becomes of the call.

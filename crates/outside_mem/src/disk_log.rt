@@ -2,8 +2,10 @@
 
 ghost use Rattle.std.specs.Prelude.{◌≡◌, ◌<◌, ◌≤◌, ◌+◌, ◌-◌, ◌*◌, ◌∷◌, ◌++◌, [], IfOk, OnOk, OnErr, drop, length, min, replicate, take, vec_capacity, vec_len};
 ghost use Rattle.outside.specs.History.{IsCovered, after_sync, beginning, overwritten, written};
-ghost use Rattle.outside_mem.specs.DiskHistory.{all_len, history_by, spent};
+ghost use Rattle.outside_mem.specs.DiskHistory.{all_len, first_of, history_by, spent};
+ghost use Rattle.outside_mem.specs.Moments.{moment_at};
 
+use crate::moment::{DiskMoment, replay};
 use std::alloc::AllocError;
 
 /// A call of a disk in memory that it keeps.
@@ -72,15 +74,15 @@ fn append_filler(bytes: &mut Vec<u8>, len: usize, byte: u8)
 }
 
 /// Writes a piece over what is there and past its end, where there is room for it.
-fn overwrite(held: &mut Vec<u8>, at: usize, piece: &[u8])
-    requires within { at ≤ vec_len held.old }
-    requires room { at + length piece.now ≤ vec_capacity held.old }
+pub(crate) fn overwrite(held: &mut Vec<u8>, at: usize, piece: &[u8])
+    requires { min at (vec_len held.old) + length piece.now ≤ vec_capacity held.old }
     ensures items { held.new.items ≡ overwritten at piece.now held.old.items }
     ensures capacity { vec_capacity held.old ≤ vec_capacity held.new }
 {
-    let over = piece.len().min(held.len() - at);
+    let from = at.min(held.len());
+    let over = piece.len().min(held.len() - from);
     let (front, back) = piece.split_at(over);
-    held[at..at + over].copy_from_slice(front);
+    held[from..from + over].copy_from_slice(front);
     held.extend_from_slice(back).unwrap();
 }
 
@@ -140,6 +142,34 @@ impl DiskLog {
         ensures { result.items ≡ (log_history self).now.held }
     {
         self.held
+    }
+
+    /// How many calls there were.
+    pub(crate) fn clock(&self) -> u64
+        ensures { result ≡ length (log_history self.now).past }
+    {
+        self.calls.len() as u64
+    }
+
+    /// What was held at first.
+    fn first(&self) -> &[u8]
+        ensures { result.now ≡ first_of self.now.held.items self.now.first.items self.now.calls.items }
+    {
+        if self.calls.is_empty() {
+            return self.held.as_slice();
+        }
+        self.first.as_slice()
+    }
+
+    /// What was held after so many calls, where there were as many. An `Err` is want of memory.
+    pub(crate) fn moment(&self, number: u64) -> Result<Option<DiskMoment>, AllocError>
+        ensures { IfOk result (λ moment. moment ≡ moment_at (log_history self.now) number) }
+    {
+        let Some(calls) = self.calls.get(..number as usize) else {
+            return Ok(None);
+        };
+        let first = Vec::from_slice(*self.held.allocator(), self.first())?;
+        Ok(Some(replay(first, &self.bytes, calls)?))
     }
 
     /// Makes room for so many calls, of so many bytes each at most, that end at or below `to`.

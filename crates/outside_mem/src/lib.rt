@@ -6,9 +6,12 @@
 mod calls;
 mod disk;
 mod disk_log;
+#[cfg(test)]
+mod disk_tests;
 mod failures;
 mod inputs;
 mod lists;
+mod moment;
 mod named;
 mod outputs;
 mod readers;
@@ -26,6 +29,7 @@ pub use disk::MemDisk;
 pub use disk_log::DiskCall;
 pub use failures::Failing;
 pub use inputs::MemSource;
+pub use moment::DiskMoment;
 pub use named::NamedStore;
 pub use outputs::MemSink;
 pub use readers::MemReader;
