@@ -61,7 +61,7 @@ module _ {D : Type 0} (w : disks.Ghosts D) (j : Journaling D) (was : List Entry)
       let area : IsArea c (j.generation + 1) entries (gate_behind entries) = subst (λ (l : List ℕ). IsArea l (j.generation + 1) entries (gate_behind entries)) (sym opened.3) (text_read (j.generation + 1) entries opened.0 opened.2 small are opened.1) in
       let sides = turned j.second d c in
       inr (ap (λ (l : List ℕ). journal_of l (second_of j.second d c)) (sym sides.0) ∙ ap (λ (l : List ℕ). journal_of (first_of (not j.second) c d) l) (sym sides.1)
-        ∙ choose (not j.second) c d (j.generation + 1) entries (gate_behind entries) area (ap (λ (l : List ℕ). chosen (not j.second) (Some (j.generation + 1)) (head_of l)) is ∙ next j.fresh refl told_here))
+      ∙ choose (not j.second) c d (j.generation + 1) entries (gate_behind entries) area (ap (λ (l : List ℕ). chosen (not j.second) (Some (j.generation + 1)) (head_of l)) is ∙ next j.fresh refl told_here))
 
   abbrev P : List ℕ → List ℕ → Type 0
   P = IsBeforeOrAfter (current_in j was) (with_checkpoint j entries)
@@ -77,7 +77,7 @@ module _ {D : Type 0} (w : disks.Ghosts D) (j : Journaling D) (was : List Entry)
       let side : Leaves (first_of (not j.second) there here) (first_of (not j.second) x here) (second_of (not j.second) there here) (second_of (not j.second) x here) P =
       leaves_side (not j.second) (Replaces (behind_head (j.generation + 1) entries) there.now.held) P there x here since
       (λ c d kept image. let sides = turned j.second d c in
-        subst (λ (l : List ℕ). P l (second_of (not j.second) c d)) (sym sides.0) (subst (λ (l : List ℕ). P (first_of j.second d c) l) (sym sides.1) (choice told.0 told.1 c d kept (only_here w j was ready d told.0 image)))) in
+      subst (λ (l : List ℕ). P l (second_of (not j.second) c d)) (sym sides.0) (subst (λ (l : List ℕ). P (first_of j.second d c) l) (sym sides.1) (choice told.0 told.1 c d kept (only_here w j was ready d told.0 image)))) in
       subst (λ (z : History). Leaves (first_of j.second here there) (first_of j.second z x) (second_of j.second here there) (second_of j.second z x) P) (sym same)
       (subst (λ (a : History). Leaves a (first_of j.second here x) (second_of j.second here there) (second_of j.second here x) P) old.0
       (subst (λ (a : History). Leaves (first_of (not j.second) there here) a (second_of j.second here there) (second_of j.second here x) P) new.0
@@ -95,7 +95,7 @@ module _ {D : Type 0} (w : disks.Ghosts D) (j : Journaling D) (was : List Entry)
       let sides = turned j.second h.disk t.disk in
       subst (λ (d : D). Leaves (w.history (first_of j.second j.here.disk j.there.disk)) (w.history d) (w.history (second_of j.second j.here.disk j.there.disk)) (w.history (second_of (not j.second) t.disk h.disk)) P) (sym sides.0)
       (subst (λ (d : D). Leaves (w.history (first_of j.second j.here.disk j.there.disk)) (w.history (first_of j.second h.disk t.disk)) (w.history (second_of j.second j.here.disk j.there.disk)) (w.history d) P) (sym sides.1)
-        (leaves_failed h t tell same since))
+      (leaves_failed h t tell same since))
 
   -- the journal after it
   pub ready_turned : (h t : Fusing D) → w.tells h.disk ≡ w.tells j.here.disk → w.tells t.disk ≡ w.tells j.there.disk → w.history h.disk ≡ here → (IsTrue (w.tells j.there.disk) → IsReplaced (behind_head (j.generation + 1) entries) (w.history t.disk).now)

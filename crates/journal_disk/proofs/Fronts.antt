@@ -15,7 +15,7 @@ head_ten bytes = ⊎_elim (λ short. ap head_of (take_all 10 bytes (omega (arith
     long le =
         ap head_of (take-add 9 1 bytes)
         ∙ head_front (take 9 bytes) (take 1 (drop 9 bytes)) (drop 9 bytes) (length-take-le 9 bytes (omega (arith, le)))
-          (omega (arith, le, length-drop 9 bytes, length-take-le 1 (drop 9 bytes) (omega (arith, le, length-drop 9 bytes)))) (omega (arith, le, length-drop 9 bytes))
+        (omega (arith, le, length-drop 9 bytes, length-take-le 1 (drop 9 bytes) (omega (arith, le, length-drop 9 bytes)))) (omega (arith, le, length-drop 9 bytes))
         ∙ ap head_of (take-append-drop 9 bytes)
 
 -- what a read has put at the front of a buffer

@@ -93,8 +93,8 @@ module _ {D : Type 0} (w : disks.Ghosts D) where
         let run : Since here (w.history new.here.disk) (Sees (λ c. c ≡ here.now.held)) = subst (λ (h : History). Since here h (Sees (λ c. c ≡ here.now.held))) (sym same_here) (started here (Sees (λ c. c ≡ here.now.held)) (λ c image. only_here c told.0 image)) in
         moved new P (λ c. c ≡ here.now.held) second same_there run
         (λ c d is image. has (first_of j.second c d) (second_of j.second c d)
-          (ap (λ (l : List ℕ). journal_of (first_of j.second l d) (second_of j.second l d)) is
-           ∙ ap (λ (l : List ℕ). journal_of (first_of j.second here.now.held l) (second_of j.second here.now.held l)) (only_there d told.1 image) ∙ stands told.0 told.1))
+        (ap (λ (l : List ℕ). journal_of (first_of j.second l d) (second_of j.second l d)) is
+        ∙ ap (λ (l : List ℕ). journal_of (first_of j.second here.now.held l) (second_of j.second here.now.held l)) (only_there d told.1 image) ∙ stands told.0 told.1))
 
     -- one entry more, or not
     pub leaves_appended : (new : Journaling D) (e : Entry) → j.fresh ≡ false → BothTell w j → new.second ≡ j.second → w.history new.there.disk ≡ there → Since here (w.history new.here.disk) (Sees (IsAreaOrMore j.generation entries j.gate e))
@@ -103,13 +103,13 @@ module _ {D : Type 0} (w : disks.Ghosts D) where
         let told = both (λ d. IsTrue (w.tells d)) j.second j.here.disk j.there.disk tell in
         moved new (IsBeforeOrAfter (current_in j entries) (with_entry j entries e)) (IsAreaOrMore j.generation entries j.gate e) second same_there since
         (λ c d has image.
-          let current = ready.current fresh told.1 in
-          let other = only_there d told.1 image in
-          let chose : chosen j.second (Some j.generation) (head_of d) ≡ Some j.second = ap (λ (l : List ℕ). chosen j.second (Some j.generation) (head_of l)) other ∙ current in
-          ⊎_elim
-          (λ h. inl (choose j.second c d j.generation entries j.gate h chose ∙ ap (λ (b : Bool). Ok (if b then None else Some (record { second = j.second; generation = j.generation; entries = entries; gate = j.gate }))) (sym fresh)))
-          (λ h. inr (choose j.second c d j.generation (entries ++ e ∷ []) (next_gate j.gate e) h chose))
-          has)
+        let current = ready.current fresh told.1 in
+        let other = only_there d told.1 image in
+        let chose : chosen j.second (Some j.generation) (head_of d) ≡ Some j.second = ap (λ (l : List ℕ). chosen j.second (Some j.generation) (head_of l)) other ∙ current in
+        ⊎_elim
+        (λ h. inl (choose j.second c d j.generation entries j.gate h chose ∙ ap (λ (b : Bool). Ok (if b then None else Some (record { second = j.second; generation = j.generation; entries = entries; gate = j.gate }))) (sym fresh)))
+        (λ h. inr (choose j.second c d j.generation (entries ++ e ∷ []) (next_gate j.gate e) h chose))
+        has)
 
     -- the journal with one entry more
     pub ready_appended : (h t : Fusing D) (e : Entry) (gate : ℕ) (prepared : ℕ) → j.fresh ≡ false → gate ≡ next_gate j.gate e → w.tells h.disk ≡ w.tells j.here.disk → w.tells t.disk ≡ w.tells j.there.disk → w.history t.disk ≡ there

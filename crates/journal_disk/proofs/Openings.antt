@@ -12,7 +12,7 @@ use Rattle.journal_disk.proofs.Journals.{open_gate}
 synced : {E : Type 0} (s x : History) (answer : Result Unit E) → IsImage s.now s.now.held → OnOk answer (x ≡ after_sync s) → OnErr answer (x ≡ s) → Since s x (Sees (IsImage s.now))
 synced s x (Ok v) law ok err = subst (λ (h : History). Since s h (Sees (IsImage s.now))) (sym ok)
     (one_more s s (Sees (IsImage s.now)) (after_sync s).now (started s (Sees (IsImage s.now)) (λ c image. image))
-      (λ c image. subst (λ (l : List ℕ). IsImage s.now l) (sym (only_synced (after_sync s).now c refl image)) law))
+    (λ c image. subst (λ (l : List ℕ). IsImage s.now l) (sym (only_synced (after_sync s).now c refl image)) law))
 synced s x (Err e) law ok err = subst (λ (h : History). Since s h (Sees (IsImage s.now))) (sym err) (started s (Sees (IsImage s.now)) (λ c image. image))
 
 same_held : {E : Type 0} (s x : History) (answer : Result Unit E) → OnOk answer (x ≡ after_sync s) → OnErr answer (x ≡ s) → x.now.held ≡ s.now.held
@@ -76,7 +76,7 @@ module _ {D : Type 0} (w : disks.Ghosts D) where
     fuse_1 = y.fuse;
     images = λ tell. since_map (Sees (IsImage (w.history a.disk).now)) (λ m. Since (w.history b.disk) (w.history b'.disk) (λ n. Images (λ s t. IsImage (w.history a.disk).now s × IsImage (w.history b.disk).now t) m n)) (w.history a.disk) (w.history a'.disk)
         (λ m sees. since_map (Sees (IsImage (w.history b.disk).now)) (λ n. Images (λ s t. IsImage (w.history a.disk).now s × IsImage (w.history b.disk).now t) m n) (w.history b.disk) (w.history b'.disk)
-            (λ n seen. λ s t i j. (sees s i, seen t j)) (y.images tell.1))
+        (λ n seen. λ s t i j. (sees s i, seen t j)) (y.images tell.1))
         (x.images tell.0);
   }
 

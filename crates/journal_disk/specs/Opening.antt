@@ -10,6 +10,7 @@ use Rattle.journal_disk.specs.Areas.{area_number, first_of, journal_of, second_o
 use Rattle.journal_disk.specs.Journaling.{IsAtRest, IsReady, Journaling, current_in}
 use Rattle.journal_disk.specs.declared.fault.RecoverFault.{RecoverFault}
 use Rattle.journal_disk.specs.declared.fault.RecoverFault.TheVariants as faults
+
 -- ---- one area
 -- reads change nothing
 pub record IsRead {D : Type 0} (w : disks.Ghosts D) (old new : Fusing D) : Type 0 where
@@ -17,10 +18,12 @@ pub record IsRead {D : Type 0} (w : disks.Ghosts D) (old new : Fusing D) : Type 
   pub history : w.history new.disk ≡ w.history old.disk
   pub own : w.faults old.disk ≤ w.faults new.disk
   pub fuse : old.fuse ≡ None → new.fuse ≡ None
+
 -- ---- both areas
 -- both tell
 abbrev pub Tell : {D : Type 0} → disks.Ghosts D → Fusing D → Fusing D → Type 0
 Tell w a b = IsTrue (w.tells a.disk) × IsTrue (w.tells b.disk)
+
 -- Reads give what they gave, the fuse is cleared, and at every moment each pair of images is one that a crash before the call could leave.
 pub record Opens {D : Type 0} (w : disks.Ghosts D) (a b a' b' : Fusing D) : Type 0 where
   pub tells_0 : w.tells a'.disk ≡ w.tells a.disk
@@ -32,9 +35,11 @@ pub record Opens {D : Type 0} (w : disks.Ghosts D) (a b a' b' : Fusing D) : Type
   pub fuse_0 : a'.fuse ≡ None
   pub fuse_1 : b'.fuse ≡ None
   pub images : Tell w a b → Leaves (w.history a.disk) (w.history a'.disk) (w.history b.disk) (w.history b'.disk) (λ x y. IsImage (w.history a.disk).now x × IsImage (w.history b.disk).now y)
+
 -- the own count of an area rose
 abbrev pub OwnRose : {D : Type 0} → disks.Ghosts D → Fusing D → Fusing D → Fusing D → Fusing D → Type 0
 OwnRose w a b a' b' = Rose (w.faults a.disk) (w.faults a'.disk) ⊎ Rose (w.faults b.disk) (w.faults b'.disk)
+
 -- ---- the answers
 -- The journal stands for what the bytes of both areas stand for.
 pub record IsRecovered {D : Type 0} (w : disks.Ghosts D) (a b : Fusing D) (limit : ℕ) (j : Journaling D) (entries : List Entry) : Type 0 where
@@ -43,17 +48,20 @@ pub record IsRecovered {D : Type 0} (w : disks.Ghosts D) (a b : Fusing D) (limit
   pub sound : j.failed ≡ false
   pub limited : j.limit ≡ limit
   pub areas : Opens w a b (first_of j.second j.here j.there) (second_of j.second j.here j.there)
+
 -- Why there is none: the current area is damaged at this place, or the own count of an area rose, or there was no memory.
 pub record IsBroken {D : Type 0} (w : disks.Ghosts D) (a b a' b' : Fusing D) (why : RecoverFault) : Type 0 where
   pub damaged : (area place : ℕ) → why ≡ faults.Damaged area place → Tell w a b → journal_of (w.history a.disk).now.held (w.history b.disk).now.held ≡ Err (area, place)
   pub failed : why ≡ faults.Failed → OwnRose w a b a' b'
   pub areas : Opens w a b a' b'
+
 -- ---- the parts of an opening
 -- an area at rest under this head
 pub record IsHeaded {D : Type 0} (w : disks.Ghosts D) (area : Fusing D) (generation : Option ℕ) (shut : Bool) : Type 0 where
   pub rest : IsTrue (w.tells area.disk) → IsAtRest (w.history area.disk).now
   pub head : IsTrue (w.tells area.disk) → head_of (w.history area.disk).now.held ≡ generation
   pub closed : IsTrue (w.tells area.disk) → is_shut (w.history area.disk).now.held ≡ shut
+
 -- the journal whose current area was read
 pub record IsOpened {D : Type 0} (w : disks.Ghosts D) (second : Bool) (here there : Fusing D) (generation limit : ℕ) (j : Journaling D) (entries : List Entry) : Type 0 where
   pub read : IsRead w here j.here
@@ -64,6 +72,7 @@ pub record IsOpened {D : Type 0} (w : disks.Ghosts D) (second : Bool) (here ther
   pub bounded : j.limit ≡ limit
   pub sound : j.failed ≡ false
   pub ready : IsReady w j entries
+
 -- why the current area was not read
 pub record IsUnread {D : Type 0} (w : disks.Ghosts D) (second : Bool) (here there here' there' : Fusing D) (why : RecoverFault) : Type 0 where
   pub read : IsRead w here here'

@@ -53,13 +53,31 @@ impl<D: Disk> Model for Journal<D> {
     ghost Value = { Journaling D };
 
     ghost view = { λ j. record {
-        here = j.here; there = j.there; second = j.second; here_shut = j.here_shut; there_shut = j.there_shut; fresh = j.fresh;
-        generation = j.generation; gate = j.gate; limit = j.limit; prepared = j.prepared; failed = j.failed
+      here = j.here;
+      there = j.there;
+      second = j.second;
+      here_shut = j.here_shut;
+      there_shut = j.there_shut;
+      fresh = j.fresh;
+      generation = j.generation;
+      gate = j.gate;
+      limit = j.limit;
+      prepared = j.prepared;
+      failed = j.failed;
     } };
 
     ghost invariant = { λ j. Fits D.Disk (record {
-        here = j.here; there = j.there; second = j.second; here_shut = j.here_shut; there_shut = j.there_shut; fresh = j.fresh;
-        generation = j.generation; gate = j.gate; limit = j.limit; prepared = j.prepared; failed = j.failed
+      here = j.here;
+      there = j.there;
+      second = j.second;
+      here_shut = j.here_shut;
+      there_shut = j.there_shut;
+      fresh = j.fresh;
+      generation = j.generation;
+      gate = j.gate;
+      limit = j.limit;
+      prepared = j.prepared;
+      failed = j.failed;
     }) × (8256 ≤ vec_capacity j.text) };
 }
 

@@ -61,10 +61,7 @@ pub(crate) fn read_head<D: Disk>(area: &mut Fused<D>) -> Result<Head, Fault>
 /// All bytes of an area.
 ///
 /// `Failed` only where the area's own count rose; else an error is want of memory.
-pub(crate) fn read_all<D: Disk>(
-    alloc: Global,
-    area: &mut Fused<D>,
-) -> Result<Vec<u8>, RecoverFault>
+pub(crate) fn read_all<D: Disk>(alloc: Global, area: &mut Fused<D>) -> Result<Vec<u8>, RecoverFault>
     requires unfused { area.old.fuse ≡ None }
 
     ensures bytes { IsTrue (D.tells area.old.disk) → IfOk result (λ bytes. bytes.items ≡ (D.history area.old.disk).now.held) }

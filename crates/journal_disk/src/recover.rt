@@ -65,10 +65,7 @@ fn settle<D: Disk>(a: &mut Fused<D>, b: &mut Fused<D>) -> Result<(), RecoverFaul
 }
 
 // Settles both areas, and reads their heads.
-fn read_heads<D: Disk>(
-    a: &mut Fused<D>,
-    b: &mut Fused<D>,
-) -> Result<(Head, Head), RecoverFault>
+fn read_heads<D: Disk>(a: &mut Fused<D>, b: &mut Fused<D>) -> Result<(Head, Head), RecoverFault>
     ensures first { IfOk result (λ heads. IsHeaded D.Disk a.new heads.0.generation heads.0.shut) }
     ensures second { IfOk result (λ heads. IsHeaded D.Disk b.new heads.1.generation heads.1.shut) }
     ensures areas { Opens D.Disk a.old b.old a.new b.new }

@@ -13,11 +13,7 @@ use outside::fused::Fused;
 use outside::stream::Fault;
 
 /// Writes a piece and lets it survive a crash: two calls.
-pub(crate) fn write_synced<D: Disk>(
-    area: &mut Fused<D>,
-    at: u64,
-    piece: &[u8],
-) -> Result<(), Fault>
+pub(crate) fn write_synced<D: Disk>(area: &mut Fused<D>, at: u64, piece: &[u8]) -> Result<(), Fault>
     requires within { IsTrue (D.tells area.old.disk) → at ≤ length (D.history area.old.disk).now.held }
     requires covered { CoversCalls 2 (D.spare area.old.disk) (at + length piece.now) (length piece.now) }
 

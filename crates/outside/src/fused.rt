@@ -34,7 +34,11 @@ impl<D: Disk> Fused<D> {
     pub fn new(disk: D) -> Fused<D>
         ensures { result ≡ record { disk = disk; fuse = None; blown = 0 } }
     {
-        Fused { disk, fuse: None, blown: 0 }
+        Fused {
+            disk,
+            fuse: None,
+            blown: 0,
+        }
     }
 
     /// Sets the fuse to so many calls, 0 and up, or clears it.

@@ -24,7 +24,10 @@ fn areas_have_the_worked_bytes(rt: HostRuntime) -> Result<(), Fail> {
     assert!(rt; recovered.fresh);
     assert_eq!(rt; recovered.entries.as_slice().len(), 0);
     let mut journal = recovered.journal;
-    assert_eq!(rt; checkpoint(&rt, alloc, &mut journal, names(alloc, None)?), Ok(()));
+    assert_eq!(rt;
+        checkpoint(&rt, alloc, &mut journal, names(alloc, None)?),
+        Ok(())
+    );
     assert_eq!(rt; journal.gate(), 54);
     assert_eq!(rt; append(&rt, &mut journal, &mkdir(alloc, "/a")?), Ok(()));
     assert_eq!(rt; journal.gate(), 64);
@@ -33,7 +36,10 @@ fn areas_have_the_worked_bytes(rt: HostRuntime) -> Result<(), Fail> {
     assert_eq!(rt; b.as_slice(), b"".as_slice());
 
     let mut journal = opened(alloc, &a, &b)?.journal;
-    assert_eq!(rt; checkpoint(&rt, alloc, &mut journal, names(alloc, Some("/a"))?), Ok(()));
+    assert_eq!(rt;
+        checkpoint(&rt, alloc, &mut journal, names(alloc, Some("/a"))?),
+        Ok(())
+    );
     assert_eq!(rt; journal.generation(), 2);
     let (a, b) = bytes_of(journal);
     assert_eq!(rt; a.as_slice(), FIRST.as_slice());
@@ -71,7 +77,10 @@ fn the_last_generation_has_no_checkpoint(rt: HostRuntime) -> Result<(), Fail> {
     }
     let mut journal = opened(alloc, &area, SECOND)?.journal;
     assert_eq!(rt; journal.generation(), u64::MAX);
-    assert_eq!(rt; checkpoint(&rt, alloc, &mut journal, names(alloc, None)?), Err(AppendFault::Full));
+    assert_eq!(rt;
+        checkpoint(&rt, alloc, &mut journal, names(alloc, None)?),
+        Err(AppendFault::Full)
+    );
     assert_eq!(rt; append(&rt, &mut journal, &mkdir(alloc, "/b")?), Ok(()));
     Ok(())
 }

@@ -1,8 +1,8 @@
 //! Openings of areas that are damaged, cut or changed.
 
 use super::bytes::{FIRST, SECOND};
-use super::plain::{Plain, read};
 use super::open;
+use super::plain::{Plain, read};
 use crate::fault::RecoverFault;
 use std::alloc::Global;
 use std::process::Abort;
@@ -40,11 +40,26 @@ fn damage_has_its_place(rt: HostRuntime) -> Result<(), Fail> {
     assert_eq!(rt; answer(alloc, &FIRST[..60], b"")?, Err((0, 54)));
     assert_eq!(rt; answer(alloc, &FIRST[..54], b"")?, Err((0, 54)));
     assert_eq!(rt; answer(alloc, &FIRST[..9], b"")?, Ok(None));
-    assert_eq!(rt; answer(alloc, &changed(alloc, FIRST, 0, 0)?, b"")?, Ok(None));
-    assert_eq!(rt; answer(alloc, &changed(alloc, FIRST, 64, 2)?, b"")?, Err((0, 64)));
-    assert_eq!(rt; answer(alloc, &changed(alloc, FIRST, 63, b'/')?, b"")?, Err((0, 54)));
-    assert_eq!(rt; answer(alloc, &changed(alloc, FIRST, 54, 2)?, b"")?, Ok(Some(3)));
-    assert_eq!(rt; answer(alloc, &changed(alloc, FIRST, 54, 0)?, b"")?, Ok(Some(2)));
+    assert_eq!(rt;
+        answer(alloc, &changed(alloc, FIRST, 0, 0)?, b"")?,
+        Ok(None)
+    );
+    assert_eq!(rt;
+        answer(alloc, &changed(alloc, FIRST, 64, 2)?, b"")?,
+        Err((0, 64))
+    );
+    assert_eq!(rt;
+        answer(alloc, &changed(alloc, FIRST, 63, b'/')?, b"")?,
+        Err((0, 54))
+    );
+    assert_eq!(rt;
+        answer(alloc, &changed(alloc, FIRST, 54, 2)?, b"")?,
+        Ok(Some(3))
+    );
+    assert_eq!(rt;
+        answer(alloc, &changed(alloc, FIRST, 54, 0)?, b"")?,
+        Ok(Some(2))
+    );
     Ok(())
 }
 

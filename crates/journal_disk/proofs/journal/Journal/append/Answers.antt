@@ -34,19 +34,23 @@ invariant_of-self g c =
       bytes = c.deref.ensures.value ∙ c.push_gate.ensures.items ∙ ap (λ (l : List ℕ). l ++ 0 ∷ []) (c.encode.ensures.text ∙ ap (λ (l : List ℕ). l ++ entry_text e) c.clear.ensures.items);
     } in
     let same_there = ap (λ f. g.D.Disk.history f.disk) c.set_fuse.ensures in
-    let place : c.in-Some.end - 1 ≡ next_gate c.self.inside.gate e = omega (arith, c.in-Some.ensures.end, ap (λ k. k.gate) s.rest) in
-    (record {
-      limit = fits.limit;
-      gate = omega (arith, c.in-Some.ensures.within, ap (λ k. k.limit) s.rest, fits.limit);
-      generation = fits.generation;
-      prepared = λ is. absurd (omega (arith, is));
-      fuse = sym (ap (λ f. f.fuse) c.set_fuse.ensures ∙ c.left.ensures);
-      fresh = fits.fresh;
-      ready = λ sound.
-          let now = fits.ready sound in
-          (now.0 ++ e ∷ [], ready_appended g.D.Disk _ now.0 now.1 c.append_text-done.new.area c.set_fuse.new.self e (c.in-Some.end - 1) 0 fresh place c.append_text-done.ensures.tells (ap (λ f. g.D.Disk.tells f.disk) c.set_fuse.ensures) same_there
-            (λ tells. c.in-Ok.ensures.ok tells c.self.inside.generation now.0 e piece (record { rest = now.1.here tells; area = now.1.area fresh tells })));
-    }, omega (arith, c.push_gate.ensures.capacity, c.encode.ensures.capacity, c.clear.ensures.capacity, c.self.invariant.1))
+    let place : c.in-Some.end - 1 ≡ next_gate c.self.inside.gate e = omega (arith, c.in-Some.ensures.end, ap (λ k. k.gate) s.rest) in (
+      record {
+        limit = fits.limit;
+        gate = omega (arith, c.in-Some.ensures.within, ap (λ k. k.limit) s.rest, fits.limit);
+        generation = fits.generation;
+        prepared = λ is. absurd (omega (arith, is));
+        fuse = sym (ap (λ f. f.fuse) c.set_fuse.ensures ∙ c.left.ensures);
+        fresh = fits.fresh;
+        ready = λ sound.
+            let now = fits.ready sound in (
+              now.0 ++ e ∷ [],
+              ready_appended g.D.Disk _ now.0 now.1 c.append_text-done.new.area c.set_fuse.new.self e (c.in-Some.end - 1) 0 fresh place c.append_text-done.ensures.tells (ap (λ f. g.D.Disk.tells f.disk) c.set_fuse.ensures) same_there
+                  (λ tells. c.in-Ok.ensures.ok tells c.self.inside.generation now.0 e piece (record { rest = now.1.here tells; area = now.1.area fresh tells })),
+            );
+      },
+      omega (arith, c.push_gate.ensures.capacity, c.encode.ensures.capacity, c.clear.ensures.capacity, c.self.invariant.1),
+    )
 
 pub returns-in-Ok-clause-acknowledged : goal.returns-in-Ok-clause-acknowledged
 returns-in-Ok-clause-acknowledged g c = λ entries was.
