@@ -18,13 +18,10 @@ use Rattle.journal_entry.specs.Meaning.{node_entry, row_entry, checkpoint_entrie
 use Rattle.inode_tree.specs.Rows.{ids_of, all_differ}
 use Rattle.inode_tree.proofs.Numbers.{both}
 use Rattle.master_state.specs.Walks.{is_open, has_place}
+use Rattle.master_state.specs.View.{plain_names}
 use Rattle.master_state.specs.Effect.{taken, after_entries, meaning}
 use Rattle.master_state.specs.Plain.{IsPlain, is_plain_row, is_plain_node, are_plain_mounts}
 use Rattle.master_state.proofs.Sorted.{all_here, put_last, not_before, none_above, below_more, walks_before, new_behind}
-
--- names without plans, locks and workers
-abbrev pub plain_names : List NodeRow → List MountRow → ℕ → ℕ → Names
-plain_names nodes mounts id plan = record { nodes = nodes; mounts = mounts; plans = []; locks = []; seen = []; next_id = id; next_plan = plan }
 
 -- plain names are such names
 pub are_plain_names : (N : Names) → IsPlain N → N ≡ plain_names N.nodes N.mounts N.next_id N.next_plan

@@ -5,3 +5,4 @@ pub mod Changed
 pub mod Stay
 pub mod Texts
 pub mod Fitting
+pub mod KeptLaws

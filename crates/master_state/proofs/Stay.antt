@@ -10,7 +10,7 @@ use Rattle.fs_model.specs.Words.{path_len, under, put_in_order}
 use Rattle.fs_model.specs.State.{Names, Node, NodeRow, MountRow, File}
 use Rattle.fs_model.specs.Lookups.{row_of, stored_is_yes, is_empty}
 use Rattle.fs_model.specs.NodesEvents.{is_reserved}
-use Rattle.fs_model.specs.Changes.{put_node, key_len, write_locks, no_names}
+use Rattle.fs_model.specs.Changes.{put_node, key_len, write_locks, change_file, no_names}
 use Rattle.fs_model.proofs.ShortPaths.{path_len-short}
 use Rattle.journal_entry.specs.declared.entry.Entry.{Entry}
 use Rattle.journal_entry.specs.Fields.{is_file_id, is_next, is_no, is_root}
@@ -105,16 +105,22 @@ only_empty : (a b : Bool) → a ≡ false → (a || b) ≡ true → b ≡ true
 only_empty true b none h = cc
 only_empty false b none h = h
 
-mount_in : (N : Names) (p : Path) (store : ℕ) (key : Prefix) (plan : ℕ) → IsPlain N → is_root p ≡ true → nat_eq plan 0 ≡ true → (has_place N p || (is_root p && is_empty N.mounts)) ≡ true → is_mountable N store key ≡ true → IsPlain (effect (Entry.Mount p store key plan) N)
-mount_in N (x ∷ xs) store key plan plain root none place may = cc
-mount_in N [] store key plan plain root none place may =
+pub mounted_is : (N : Names) (p : Path) (store : ℕ) (key : Prefix) (plan : ℕ) → IsPlain N → is_root p ≡ true → nat_eq plan 0 ≡ true → (has_place N p || (is_root p && is_empty N.mounts)) ≡ true
+    → record N { mounts = record { path = []; store = store; key = key } ∷ [] } ≡ effect (Entry.Mount p store key plan) N
+mounted_is N (x ∷ xs) store key plan plain root none place = cc
+mounted_is N [] store key plan plain root none place =
     let m : MountRow = record { path = []; store = store; key = key } in
     let taken_root : has_place N [] ≡ false = ap (λ o. not (is_some o)) plain.root in
     let free : N.mounts ≡ [] = no_mounts N.mounts (only_empty (has_place N []) (is_empty N.mounts) taken_root place) in
     let first = root_first N.nodes plain.sorted plain.root in
     let same : put_node [] Node.Directory N.nodes ≡ N.nodes = ap (put_node [] Node.Directory) first.1 ∙ sym first.1 in
+    let there : record N { mounts = m ∷ [] } ≡ effect (Entry.Mount [] store key 0) N = λ i. record N { nodes = sym same i; mounts = put_in_order (λ r. r.path) m (sym free i) } in
+    there ∙ ap (λ n. effect (Entry.Mount [] store key n) N) (sym (no_plan plan none))
+
+mount_in : (N : Names) (p : Path) (store : ℕ) (key : Prefix) (plan : ℕ) → IsPlain N → is_root p ≡ true → nat_eq plan 0 ≡ true → (has_place N p || (is_root p && is_empty N.mounts)) ≡ true → is_mountable N store key ≡ true → IsPlain (effect (Entry.Mount p store key plan) N)
+mount_in N p store key plan plain root none place may =
     let tests = and_parts (not (is_reserved key) && nat_le (key_len key) 4096) (not (list_any (λ (n : MountRow). nat_eq n.store store && (under n.key key || under key n.key)) N.mounts)) may in
-    let mounted : IsPlain (record N { mounts = m ∷ [] }) = record {
+    let mounted : IsPlain (record N { mounts = record { path = []; store = store; key = key } ∷ [] }) = record {
       sorted = plain.sorted;
       root = plain.root;
       rows = plain.rows;
@@ -126,8 +132,33 @@ mount_in N [] store key plan plain root none place may =
       file_next = plain.file_next;
       plan_next = plain.plan_next;
     } in
-    let there : IsPlain (effect (Entry.Mount [] store key 0) N) = subst IsPlain (λ i. record N { nodes = sym same i; mounts = put_in_order (λ r. r.path) m (sym free i) }) mounted in
-    subst (λ n. IsPlain (effect (Entry.Mount [] store key n) N)) (sym (no_plan plan none)) there
+    subst IsPlain (mounted_is N p store key plan plain root none place) mounted
+
+-- the tests of a mount that counts
+pub mount_tests : (N : Names) (p : Path) (store : ℕ) (key : Prefix) (plan : ℕ) → counts_in (Entry.Mount p store key plan) N ≡ true → ((is_root p ≡ true) × (nat_eq plan 0 ≡ true)) × (((has_place N p || (is_root p && is_empty N.mounts)) ≡ true) × (is_mountable N store key ≡ true))
+mount_tests N p store key plan fit =
+    let tests = and_parts (is_root p && nat_eq plan 0) (fits_in (Entry.Mount p store key plan) N) fit in
+    let place = and_parts ((has_place N p || (is_root p && is_empty N.mounts)) && is_mountable N store key) (may_begin N plan (write_locks plan (p ∷ []))) tests.1 in
+    (and_parts (is_root p) (nat_eq plan 0) tests.0, and_parts (has_place N p || (is_root p && is_empty N.mounts)) (is_mountable N store key) place.0)
+
+-- a mount that counts is that of `/` alone
+pub mount_counts : (N : Names) (p : Path) (store : ℕ) (key : Prefix) (plan : ℕ) → IsPlain N → counts_in (Entry.Mount p store key plan) N ≡ true → record N { mounts = record { path = []; store = store; key = key } ∷ [] } ≡ effect (Entry.Mount p store key plan) N
+mount_counts N p store key plan plain fit =
+    let tests = mount_tests N p store key plan fit in
+    mounted_is N p store key plan plain tests.0.0 tests.0.1 tests.1.0
+
+-- a file that is done makes no plan
+pub done_counts : (N : Names) (id len : ℕ) (stored : Stored) (plan : ℕ) → counts_in (Entry.Done id len stored plan) N ≡ true → change_file id (λ f. record f { len = len; done = true; stored = stored }) N ≡ effect (Entry.Done id len stored plan) N
+done_counts N id len stored plan fit =
+    let built = and_parts (not (stored_is_yes stored)) (nat_eq plan 0) (and_parts (not (stored_is_yes stored) && nat_eq plan 0) (fits_in (Entry.Done id len stored plan) N) fit).0 in
+    ap (λ n. effect (Entry.Done id len stored n) N) (sym (no_plan plan built.1))
+
+-- where a node that counts comes in
+pub node_counts : (N : Names) (p : Path) (dir : Bool) (id len : ℕ) (done : Bool) (stored : Stored) (pinned : Bool) → counts_in (Entry.Node p dir id len done stored pinned) N ≡ true → (has_place N p ≡ true) × (dir ≡ false → is_new_id N id ≡ true)
+node_counts N p true id len done stored pinned fit = ((and_parts (has_place N p) true fit).0, λ h. cc)
+node_counts N p false id len done stored pinned fit =
+    let place = and_parts (has_place N p) (is_new_id N id) (and_parts (not (stored_is_yes stored)) (has_place N p && is_new_id N id) fit).1 in
+    (place.0, λ h. place.1)
 
 -- names stay plain whatever entry comes
 pub stay : (e : Entry) (N : Names) → is_entry e ≡ true → IsPlain N → IsPlain (taken e N)
@@ -143,11 +174,8 @@ stay (Entry.Done id len stored plan) N h plain =
     done_in N id len stored plan plain built.0 built.1)
 stay (Entry.Mount p store key plan) N h plain =
     passed_over (counts_in (Entry.Mount p store key plan) N) _ N plain (λ fit.
-    let tests = and_parts (is_root p && nat_eq plan 0) (fits_in (Entry.Mount p store key plan) N) fit in
-    let built = and_parts (is_root p) (nat_eq plan 0) tests.0 in
-    let place = and_parts ((has_place N p || (is_root p && is_empty N.mounts)) && is_mountable N store key) (may_begin N plan (write_locks plan (p ∷ []))) tests.1 in
-    let parts = and_parts (has_place N p || (is_root p && is_empty N.mounts)) (is_mountable N store key) place.0 in
-    mount_in N p store key plan plain built.0 built.1 parts.0 parts.1)
+    let tests = mount_tests N p store key plan fit in
+    mount_in N p store key plan plain tests.0.0 tests.0.1 tests.1.0 tests.1.1)
 stay (Entry.Next id plan) N h plain =
     let nexts = and_parts (is_next id) (is_next plan) (has_text (Entry.Next id plan) h).1 in
     stays_risen N (max N.next_id id) (max N.next_plan plan) plain (above N.next_id id) (next_of id N.next_id nexts.0 plain.file_next) (next_of plan N.next_plan nexts.1 plain.plan_next)
@@ -183,3 +211,9 @@ first_plain = record {
   file_next = refl;
   plan_next = refl;
 }
+
+-- names after an entry that counts
+pub stay_after : (e : Entry) (N M : Names) (b : Bool) → has_form e ≡ true → fits e ≡ true → IsPlain N → b ≡ counts_in e N → b ≡ true → M ≡ effect e N → IsPlain M
+stay_after e N M b form text plain test counts made =
+    let is : taken e N ≡ M = ap (λ t. cond t (effect e N) N) (sym test ∙ counts) ∙ sym made in
+    subst IsPlain is (stay e N (both (has_form e) (fits e) form text) plain)

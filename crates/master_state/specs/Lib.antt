@@ -3,6 +3,8 @@ pub mod Built
 pub mod Fits
 pub mod Effect
 pub mod Plain
+pub mod View
+pub mod Kept
 pub mod Finishing
 pub mod Laws
 pub mod Examples
