@@ -1,17 +1,23 @@
 -- What the calls on the tree leave, as the machine says it of the names.
-use Rattle.std.proofs.Common.{◌≡◌, ℕ, Bool, true, false, cond, not, List, [], ◌∷◌, Option, Some, None, option_map, option_and_then, nat_eq, refl, sym, ap, ◌∙◌, subst, arith}
+use Rattle.std.proofs.Common.{map, find, ◌≡◌, ℕ, Bool, true, false, cond, not, List, [], ◌∷◌, Option, Some, None, option_map, option_and_then, nat_eq, refl, sym, ap, ◌∙◌, subst, arith}
 use Rattle.std.proofs.lemmas.Bool.{and_parts}
+use Rattle.std.proofs.lemmas.List.{append-nil}
 use Rattle.std.proofs.lemmas.Option.{same_Some}
 use Rattle.fs_model.specs.declared.path.Path.{Path}
 use Rattle.fs_model.specs.declared.reply.Stored.{Stored}
-use Rattle.fs_model.specs.Words.{parts}
-use Rattle.fs_model.specs.State.{Names, Node, NodeRow, File}
+use Rattle.fs_model.specs.Words.{parts, path_eq}
+use Rattle.fs_model.specs.State.{Names, Node, NodeRow, MountRow, File}
 use Rattle.fs_model.specs.Lookups.{Walk, find_node, walk_part, walk_along, walk_above, walk_nodes, has_node, file_in, id_is}
+use Rattle.journal_entry.specs.declared.entry.Entry.{Entry}
+use Rattle.journal_entry.specs.Meaning.{node_entry, row_entry, checkpoint_entries}
 use Rattle.inode_tree.specs.declared.row.Row.{Row}
-use Rattle.inode_tree.specs.Rows.{node_of, file_in_row, node_if, file_row, file_changed}
+use Rattle.inode_tree.specs.declared.row.PathRow.{PathRow}
+use Rattle.inode_tree.specs.Rows.{node_of, file_in_row, node_if, file_row, file_changed, row_of_node, row_told, path_row}
 use Rattle.inode_tree.proofs.Walks.{free_leads}
 use Rattle.master_state.specs.Walks.{is_open, has_place}
 use Rattle.master_state.specs.Fits.{file_passes}
+use Rattle.master_state.specs.View.{plain_names}
+use Rattle.master_state.specs.Kept.{entry_of_node, entry_of_row}
 
 -- ---- where a node may come in
 
@@ -80,3 +86,31 @@ is_finished nodes new id len stored row found undone changes = by_row (file_row 
     by_row : (o : Option NodeRow) → file_row nodes id ≡ o → option_map node_of (Some row) ≡ option_map (λ (r : NodeRow). r.1) o → file_passes (λ f. not f.done) (option_and_then (λ (r : NodeRow). file_in r.1) o) ≡ true → new ≡ file_changed id change nodes
     by_row None there same passes = absurd (cc)
     by_row (Some r) there same passes = by_file r r.1 refl there (same_Some (node_of row) r.1 same) passes
+
+-- ---- a checkpoint
+
+node_told : (p : Path) (n : Node) → entry_of_node p (row_of_node n) ≡ node_entry p n
+node_told p Node.Directory = refl
+node_told p (Node.IsFile f) = refl
+
+module _ (nodes : List NodeRow) (mounts : List MountRow) (id plan : ℕ) where
+  abbrev entry_told : Path × Row → Entry
+  entry_told r = entry_of_row mounts r.0 r.1
+
+  row_told_is : (r : NodeRow) → entry_told (row_told r) ≡ row_entry (plain_names nodes mounts id plan) r
+  row_told_is r = elim (find (λ (m : MountRow). path_eq m.path r.0) mounts) as (λ o. elim o [ None ↦ entry_of_node r.0 (row_of_node r.1) | Some m ↦ Entry.Mount r.0 m.store m.key 0 ] ≡ elim o [ None ↦ node_entry r.0 r.1 | Some m ↦ Entry.Mount r.0 m.store m.key 0 ]) [
+    | None ↦ node_told r.0 r.1
+    | Some m ↦ refl
+  ]
+
+  told_rows : (rows : List PathRow) → map (λ (n : PathRow). entry_of_row mounts n.path n.row) rows ≡ map entry_told (map path_row rows)
+  told_rows [] = refl
+  told_rows (r ∷ rows) = ap (λ es. entry_of_row mounts r.path r.row ∷ es) (told_rows rows)
+
+  told_nodes : (rs : List NodeRow) → map entry_told (map row_told rs) ≡ map (row_entry (plain_names nodes mounts id plan)) rs
+  told_nodes [] = refl
+  told_nodes (r ∷ rs) = λ i. row_told_is r i ∷ told_nodes rs i
+
+  -- the entries of all nodes are those of a checkpoint
+  pub entries_are : (rows : List PathRow) → map path_row rows ≡ map row_told nodes → Entry.Next id plan ∷ map (λ (n : PathRow). entry_of_row mounts n.path n.row) rows ≡ checkpoint_entries (plain_names nodes mounts id plan)
+  entries_are rows told = ap (λ es. Entry.Next id plan ∷ es) (told_rows rows ∙ ap (map entry_told) told ∙ told_nodes nodes ∙ sym (append-nil (map (row_entry (plain_names nodes mounts id plan)) nodes)))

@@ -1,6 +1,6 @@
 //! What is kept of the names, and what an entry does to it.
 
-ghost use Rattle.std.specs.Prelude.{◌≡◌, ◌≤◌, ◌<◌, ◌^◌, ◌∷◌, [], true, false, not, nat_le, ◌&&◌, ◌||◌, length, IfOk, OnOk, Some, None};
+ghost use Rattle.std.specs.Prelude.{◌≡◌, ◌≤◌, ◌<◌, ◌^◌, ◌∷◌, ◌++◌, [], map, true, false, not, nat_le, ◌&&◌, ◌||◌, length, IfOk, OnOk, Some, None};
 ghost use Rattle.fs_model.specs.declared.reply.Stored as stored;
 ghost use Rattle.fs_model.specs.State.{Node};
 ghost use Rattle.fs_model.specs.Lookups.{find_node, file_of, is_empty, stored_is_yes};
@@ -9,6 +9,7 @@ ghost use Rattle.fs_model.specs.Changes as machine;
 ghost use Rattle.fs_model.specs.Changes.{no_names, key_len, change_file};
 ghost use Rattle.journal_entry.specs.declared.entry.Entry.{Entry};
 ghost use Rattle.journal_entry.specs.EntryText.{has_bounds};
+ghost use Rattle.journal_entry.specs.Meaning.{checkpoint_entries};
 ghost use Rattle.inode_tree.specs.Rows.{node_of, file_in_row};
 ghost use Rattle.master_state.specs.Walks as walks;
 ghost use Rattle.master_state.specs.Walks.{has_place};
@@ -16,7 +17,7 @@ ghost use Rattle.master_state.specs.Fits.{is_new_id, file_passes};
 ghost use Rattle.master_state.specs.Effect.{counts_in, effect};
 ghost use Rattle.master_state.specs.Plain.{IsPlain};
 ghost use Rattle.master_state.specs.View.{Need, need_of, nodes_in};
-ghost use Rattle.master_state.specs.Kept.{need_in};
+ghost use Rattle.master_state.specs.Kept.{need_in, entry_of_row};
 
 use crate::mount::Mount;
 use crate::ready::Ready;
@@ -24,7 +25,7 @@ use fs_model::numbers::{FileId, PlanNo, StoreNo};
 use fs_model::path::Path;
 use fs_model::prefix::Prefix;
 use fs_model::reply::Stored;
-use inode_tree::row::{DIRECTORY, Row, Walk};
+use inode_tree::row::{DIRECTORY, PathRow, Row, Walk};
 use inode_tree::tree::Tree;
 use journal_entry::entry::Entry;
 use std::alloc::{AllocError, Global};
@@ -315,5 +316,55 @@ impl Kept {
             }
             _ => unreachable!(),
         }
+    }
+
+    /// The entry of a checkpoint for a node: a mount for `/` where that is mounted, else the node. An `Err` is want of
+    /// memory.
+    fn entry_of(&self, node: PathRow) -> Result<Entry, AllocError>
+        ensures { IfOk result (λ e. e ≡ entry_of_row self.now.names.mounts node.path node.row) }
+    {
+        if node.path.as_slice().is_empty() {
+            if let Some(mount) = &self.mount {
+                return Ok(Entry::Mount {
+                    path: node.path,
+                    store: mount.store,
+                    key: mount.key.clone()?,
+                    plan: PlanNo(0),
+                });
+            }
+        }
+        let row = node.row;
+        Ok(Entry::Node {
+            path: node.path,
+            dir: row.dir,
+            id: FileId(row.id),
+            len: row.len,
+            done: row.done,
+            stored: row.stored,
+            pinned: row.pinned,
+        })
+    }
+
+    /// Appends the entries of a checkpoint for these nodes. An `Err` is want of memory.
+    fn push_nodes(&self, entries: &mut Vec<Entry>, nodes: Vec<PathRow>) -> Result<(), AllocError>
+        ensures { OnOk result (entries.new.items ≡ entries.old.items ++ map (λ n. entry_of_row self.now.names.mounts n.path n.row) nodes.items) }
+    {
+        for node in nodes {
+            entries.push(self.entry_of(node)?)?;
+        }
+        Ok(())
+    }
+
+    /// The entries of a checkpoint, in order. An `Err` is want of memory.
+    pub(crate) fn entries(&self, alloc: Global) -> Result<Vec<Entry>, AllocError>
+        ensures { IfOk result (λ entries. entries.items ≡ checkpoint_entries self.now.names) }
+    {
+        let mut entries = Vec::new(alloc);
+        entries.push(Entry::Next {
+            id: FileId(self.next_id),
+            plan: PlanNo(self.next_plan),
+        })?;
+        self.push_nodes(&mut entries, self.tree.rows(alloc)?)?;
+        Ok(entries)
     }
 }

@@ -1,13 +1,15 @@
 //! The names, as the journal's entries leave them.
 
-ghost use Rattle.std.specs.Prelude.{◌≡◌, ◌≤◌, true, length, IfOk, OnOk, OnErr, IfNone, IfSome, option_map, is_some};
-ghost use Rattle.fs_model.specs.State.{Node};
-ghost use Rattle.fs_model.specs.Lookups as machine;
-ghost use Rattle.fs_model.specs.Lookups.{find_node, walk_nodes, walk_above, names_in};
+ghost use Rattle.std.specs.Prelude.{◌≡◌, true, Some, length, IfOk, OnOk, OnErr, IfSome, option_map};
+ghost use Rattle.std.specs.List.{list_all};
+ghost use Rattle.std.specs.Option.{option_copied};
+ghost use Rattle.fs_model.specs.Lookups.{find_node, walk_nodes, walk_above, has_node, row_of, path_of, children};
 ghost use Rattle.fs_model.specs.Changes.{no_names};
 ghost use Rattle.journal_entry.specs.EntryText.{fits};
-ghost use Rattle.inode_tree.specs.Rows.{node_of, row_of_node, leads_to, file_row, IfFound};
-ghost use Rattle.master_state.specs.Effect.{counts_in, taken};
+ghost use Rattle.journal_entry.specs.Meaning.{checkpoint_entries};
+ghost use Rattle.inode_tree.specs.Rows.{node_of, row_of_node, leads_to, IfFound};
+ghost use Rattle.master_state.specs.Effect.{counts_in, taken, meaning};
+ghost use Rattle.master_state.specs.Kept.{mount_rows};
 ghost use Rattle.master_state.specs.View.{Need, need_of};
 
 use crate::form::look_at;
@@ -18,7 +20,7 @@ use fs_model::name::Name;
 use fs_model::numbers::{FileId, PlanNo};
 use fs_model::path::Path;
 use inode_tree::row::{Row, Walk};
-use journal_entry::entry::Entry;
+use journal_entry::entry::{Entries, Entry};
 use std::alloc::{AllocError, Global};
 use std::marker::Model;
 use std::mem;
@@ -99,5 +101,118 @@ impl Names {
         if counts {
             self.kept.take(entry, ready);
         }
+    }
+
+    /// Takes an entry of a journal that is read: does what it stands for where it counts, and nothing where it doesn't.
+    ///
+    /// An `Err` is want of memory, and leaves the names as they were.
+    pub fn take(&mut self, entry: &Entry) -> Result<(), AllocError>
+        requires text { fits entry.now ≡ true }
+        ensures ok { OnOk result (self.new.names ≡ taken entry.now self.old.names) }
+        ensures err { OnErr result (self.new.names ≡ self.old.names) }
+    {
+        if !self.counts(entry) {
+            return Ok(());
+        }
+        self.reserve_for(entry)?;
+        self.apply(entry);
+        Ok(())
+    }
+
+    /// The names that the entries of a journal stand for, in order. An `Err` is want of memory.
+    pub fn read(alloc: Global, entries: &[Entry]) -> Result<Names, AllocError>
+        requires text { list_all fits entries.now ≡ true }
+        ensures { IfOk result (λ n. n.names ≡ meaning entries.now) }
+    {
+        let mut names = Names::new(alloc)?;
+        for entry in entries {
+            names.take(entry)?;
+        }
+        Ok(names)
+    }
+
+    /// The entries of a checkpoint: each has a text, and together they stand for these names.
+    ///
+    /// An `Err` is want of memory.
+    pub fn entries(&self, alloc: Global) -> Result<Entries, AllocError>
+        ensures entries { IfOk result (λ entries. entries ≡ checkpoint_entries self.now.names) }
+        ensures texts { IfOk result (λ entries. list_all fits entries ≡ true) }
+        ensures again { IfOk result (λ entries. meaning entries ≡ self.now.names) }
+    {
+        Ok(Entries::from_vec(self.kept.entries(alloc)?))
+    }
+
+    /// The numbers that the next file and the next plan get; takes no memory.
+    pub fn next_numbers(&self) -> (FileId, PlanNo)
+        ensures id { result.0 ≡ self.now.names.next_id }
+        ensures plan { result.1 ≡ self.now.names.next_plan }
+    {
+        (FileId(self.kept.next_id), PlanNo(self.kept.next_plan))
+    }
+
+    /// How many nodes there are, `/` counted; takes no memory.
+    pub fn nodes(&self) -> u64
+        ensures { result ≡ length self.now.names.nodes }
+    {
+        self.kept.tree.len() as u64
+    }
+
+    /// The mount of `/`; `None` where nothing is mounted. It takes no memory.
+    pub fn mount(&self) -> Option<&Mount>
+        ensures { mount_rows (option_copied result) ≡ self.now.names.mounts }
+    {
+        self.kept.mount.as_ref()
+    }
+
+    /// Where the path leads. The first of its proper prefixes, from `/`, that is no directory decides: `Absent` where it
+    /// isn't there, `Blocked` where it is a file. With none such, `Found` or `Absent` by the path itself. It takes no
+    /// memory.
+    pub fn walk(&self, path: &Path) -> Walk
+        ensures leads { leads_to result ≡ walk_nodes self.now.names.nodes path.now }
+        ensures found { IfFound result (λ row. find_node self.now.names.nodes path.now ≡ Some (node_of row)) }
+        ensures row { IfFound result (λ row. row ≡ row_of_node (node_of row)) }
+    {
+        self.kept.tree.walk(path)
+    }
+
+    /// Where the proper prefixes of the path lead, whatever is at the path itself; takes no memory.
+    pub fn walk_above(&self, path: &Path) -> Walk
+        ensures leads { leads_to result ≡ walk_above self.now.names.nodes path.now }
+    {
+        self.kept.tree.walk_above(path)
+    }
+
+    /// Whether a node is at the path; takes no memory.
+    pub fn contains(&self, path: &Path) -> bool
+        ensures { result ≡ has_node self.now.names path.now }
+    {
+        self.kept.tree.contains(path)
+    }
+
+    /// The row of the file with this number; `None` where there is no such file. It takes no memory.
+    pub fn file(&self, id: FileId) -> Option<Row>
+        ensures found { option_map node_of result ≡ option_map (λ r. r.1) (row_of self.now.names id) }
+        ensures row { IfSome result (λ row. row ≡ row_of_node (node_of row)) }
+    {
+        self.kept.tree.file(id)
+    }
+
+    /// The path of the file with this number; `None` where there is no such file.
+    ///
+    /// An `Err` is want of memory.
+    pub fn path_of(&self, alloc: Global, id: FileId) -> Result<Option<Path>, AllocError>
+        ensures path { IfOk result (λ found. found ≡ path_of self.now.names id) }
+        ensures there { IfOk result (λ found. IfSome found (λ path. find_node self.now.names.nodes path ≡ option_map (λ r. r.1) (row_of self.now.names id))) }
+    {
+        self.kept.tree.path_of(alloc, id)
+    }
+
+    /// The names right below the path, in the order of their bytes.
+    ///
+    /// An `Err` is want of memory.
+    pub fn list(&self, alloc: Global, path: &Path) -> Result<Vec<Name>, AllocError>
+        ensures { IfOk result (λ names. names.items ≡ children self.now.names path.now) }
+    {
+        self.kept.tree.list(alloc, path)
     }
 }
