@@ -1,0 +1,6 @@
+//! The master: the names, and the journal that they survive in.
+#![tactic(auto)]
+
+mod master;
+
+pub use master::Master;
