@@ -8,7 +8,8 @@ use Rattle.fs_model.specs.State.{Names}
 use Rattle.journal_entry.specs.declared.entry.Entry.{Entry}
 use Rattle.journal_disk.specs.AreaText.{gate_behind, next_gate}
 use Rattle.journal_disk.specs.Areas.{Current, Found, IsBeforeOrAfter, journal_of}
-use Rattle.journal_disk.specs.Journaling.{Journaling, LeavesAreas, current_in, with_checkpoint, with_entry}
+use Rattle.journal_disk.specs.Journaling.{BothTell, IsReady, Journaling, LeavesAreas, current_in, with_checkpoint, with_entry}
+use Rattle.journal_disk.proofs.Journals.{leaves_still}
 use Rattle.journal_disk.proofs.Moments.{since_map}
 use Rattle.master_state.specs.Effect.{after_entries, meaning, taken}
 use Rattle.master_node.specs.Mastering.{StandsFor}
@@ -43,3 +44,8 @@ module _ {D : Type 0} (w : disks.Ghosts D) (j new : Journaling D) (es : List Ent
       (λ a b. ⊎_elim
         (λ before. current_stands j.fresh (record { second = j.second; generation = j.generation; entries = es; gate = j.gate }) N a b fresh before is)
         (λ after. (record { second = not j.second; generation = j.generation + 1; entries = entries; gate = gate_behind entries }, after, means))) leaves
+
+  -- no call of an area leaves them too
+  pub still_names : IsReady w j es → BothTell w j → LeavesAreas w j j (StandsFor N)
+  still_names ready tell = leaves_still w j es ready j (StandsFor N) tell refl refl refl
+      (λ a b before. current_stands j.fresh (record { second = j.second; generation = j.generation; entries = es; gate = j.gate }) N a b fresh before is)

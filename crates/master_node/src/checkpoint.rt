@@ -35,6 +35,9 @@ impl<D: Disk> Master<D> {
         ensures memory_stays { IsErrOf result Memory → StaysAs D.Disk self.old.journal self.new.journal }
     {
         let entries = self.names.entries(alloc)?;
-        self.journal.checkpoint(alloc, &entries)
+        match self.journal.checkpoint(alloc, &entries) {
+            Ok(()) => Ok(()),
+            Err(fault) => Err(fault),
+        }
     }
 }
