@@ -1,5 +1,5 @@
 -- What a journal's calls leave, as names.
-use Rattle.std.proofs.Common.{◌≡◌, ◌⊎◌, inl, inr, ⊎_elim, ℕ, ◌+◌, Bool, false, List, [], ◌∷◌, ◌++◌, Option, Some, None, Ok, if◌then◌else◌, refl, sym, ◌∙◌, ap}
+use Rattle.std.proofs.Common.{◌≡◌, ◌⊎◌, inl, inr, ⊎_elim, ℕ, ◌+◌, Bool, false, List, [], ◌∷◌, ◌++◌, Some, None, Ok, if◌then◌else◌, refl, ◌∙◌, ap}
 use Rattle.std.specs.Prelude.{not}
 use Rattle.outside.specs.History.{History, Images, Leaves, Since}
 use Rattle.outside.specs.declared.disk.Disk as disks
@@ -7,7 +7,7 @@ use Rattle.fs_model.specs.Changes.{no_names}
 use Rattle.fs_model.specs.State.{Names}
 use Rattle.journal_entry.specs.declared.entry.Entry.{Entry}
 use Rattle.journal_disk.specs.AreaText.{gate_behind, next_gate}
-use Rattle.journal_disk.specs.Areas.{Current, Found, IsBeforeOrAfter, journal_of}
+use Rattle.journal_disk.specs.Areas.{Current, IsBeforeOrAfter, journal_of}
 use Rattle.journal_disk.specs.Journaling.{BothTell, IsReady, Journaling, LeavesAreas, current_in, with_checkpoint, with_entry}
 use Rattle.journal_disk.proofs.Journals.{leaves_still}
 use Rattle.journal_disk.proofs.Moments.{since_map}
@@ -35,15 +35,15 @@ module _ {D : Type 0} (w : disks.Ghosts D) (j new : Journaling D) (es : List Ent
   pub appended_names : (e : Entry) → LeavesAreas w j new (IsBeforeOrAfter (current_in j es) (with_entry j es e)) → LeavesAreas w j new (λ a b. StandsFor N a b ⊎ StandsFor (taken e N) a b)
   appended_names e leaves = leaves_map _ _ _ _ (IsBeforeOrAfter (current_in j es) (with_entry j es e)) (λ a b. StandsFor N a b ⊎ StandsFor (taken e N) a b)
       (λ a b. ⊎_elim
-        (λ before. inl (current_stands j.fresh (record { second = j.second; generation = j.generation; entries = es; gate = j.gate }) N a b fresh before is))
-        (λ after. inr (record { second = j.second; generation = j.generation; entries = es ++ e ∷ []; gate = next_gate j.gate e }, after, meaning_more N es e is))) leaves
+      (λ before. inl (current_stands j.fresh (record { second = j.second; generation = j.generation; entries = es; gate = j.gate }) N a b fresh before is))
+      (λ after. inr (record { second = j.second; generation = j.generation; entries = es ++ e ∷ []; gate = next_gate j.gate e }, after, meaning_more N es e is))) leaves
 
   -- a checkpoint of the names leaves them
   pub checkpointed_names : (entries : List Entry) → meaning entries ≡ N → LeavesAreas w j new (IsBeforeOrAfter (current_in j es) (with_checkpoint j entries)) → LeavesAreas w j new (StandsFor N)
   checkpointed_names entries means leaves = leaves_map _ _ _ _ (IsBeforeOrAfter (current_in j es) (with_checkpoint j entries)) (StandsFor N)
       (λ a b. ⊎_elim
-        (λ before. current_stands j.fresh (record { second = j.second; generation = j.generation; entries = es; gate = j.gate }) N a b fresh before is)
-        (λ after. (record { second = not j.second; generation = j.generation + 1; entries = entries; gate = gate_behind entries }, after, means))) leaves
+      (λ before. current_stands j.fresh (record { second = j.second; generation = j.generation; entries = es; gate = j.gate }) N a b fresh before is)
+      (λ after. (record { second = not j.second; generation = j.generation + 1; entries = entries; gate = gate_behind entries }, after, means))) leaves
 
   -- no call of an area leaves them too
   pub still_names : IsReady w j es → BothTell w j → LeavesAreas w j j (StandsFor N)
