@@ -7,3 +7,5 @@ pub mod laws;
 pub mod mount;
 pub mod names;
 mod ready;
+#[cfg(test)]
+mod tests;
