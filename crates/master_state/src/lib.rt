@@ -2,6 +2,7 @@
 #![tactic(auto)]
 
 mod form;
+mod fresh;
 mod kept;
 pub mod laws;
 pub mod mount;
