@@ -27,7 +27,7 @@ use Rattle.master_state.proofs.Sorted.{all_here, put_last, not_before, none_abov
 pub are_plain_names : (N : Names) → IsPlain N → N ≡ plain_names N.nodes N.mounts N.next_id N.next_plan
 are_plain_names N plain = λ i. record { nodes = N.nodes; mounts = N.mounts; plans = plain.planless i; locks = plain.lockless i; seen = plain.unseen i; next_id = N.next_id; next_plan = N.next_plan }
 
-counted : (b : Bool) (M N : Names) → b ≡ true → cond b M N ≡ M
+pub counted : (b : Bool) (M N : Names) → b ≡ true → cond b M N ≡ M
 counted true M N h = refl
 counted false M N h = cc
 

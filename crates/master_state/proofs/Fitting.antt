@@ -1,5 +1,5 @@
 -- The change of an accepted event fits plain names, and its entry has a text.
-use Rattle.std.proofs.Common.{◌≡◌, ℕ, ◌^◌, Bool, true, false, cond, not, ◌&&◌, ◌||◌, ◌==◌, nat_lt, nat_le, nat_eq, List, [], ◌∷◌, Option, Some, None, is_none, option_and_then, find, refl, sym, ap, subst, arith, length}
+use Rattle.std.proofs.Common.{◌≡◌, ℕ, ◌^◌, Bool, true, false, cond, not, ◌&&◌, ◌||◌, ◌==◌, nat_lt, nat_le, nat_eq, List, [], ◌∷◌, Option, Some, None, is_none, option_and_then, find, refl, sym, ap, ◌∙◌, subst, arith, length}
 use Rattle.std.specs.List.{list_all}
 use Rattle.std.proofs.lemmas.Bool.{and_parts}
 use Rattle.std.proofs.lemmas.Option.{same_Some}
@@ -34,6 +34,7 @@ use Rattle.inode_tree.proofs.Numbers.{both}
 use Rattle.master_state.specs.Walks.{is_open, has_place}
 use Rattle.master_state.specs.Fits.{is_new_id, file_passes}
 use Rattle.master_state.specs.Effect.{counts_in}
+use Rattle.master_state.specs.Places.{place_test}
 use Rattle.master_state.specs.Plain.{IsPlain, is_plain_row, is_plain_file}
 use Rattle.master_state.specs.Finishing.{finishes_new, hand_is_new}
 use Rattle.master_state.proofs.Texts.{has_text}
@@ -117,11 +118,18 @@ create_fits N p plain form place low =
     let number : is_file_id N.next_id ≡ true = both (nat_lt 0 N.next_id) (nat_lt N.next_id (2 ^ 63)) (and_parts (nat_lt 0 N.next_id) (nat_le N.next_id (2 ^ 63)) plain.file_next).0 (not_le (2 ^ 63) N.next_id low) in
     (both (has_place N p) (is_new_id N N.next_id) place new, has_text (Entry.Create N.next_id p) number (omega (arith, path_len-short p form)))
 
-done_fits : (N : Names) (id len : ℕ) → IsPlain N → file_passes (λ f. not f.done) (file_of N id) ≡ true → Fits N (Change.Done id len Stored.No 0)
+pub done_fits : (N : Names) (id len : ℕ) → IsPlain N → file_passes (λ f. not f.done) (file_of N id) ≡ true → Fits N (Change.Done id len Stored.No 0)
 done_fits N id len plain undone =
     (both (file_passes (λ f. not f.done) (file_of N id)) true undone refl, has_text (Entry.Done id len Stored.No 0) (both (is_file_id id) true (number_there N id (λ f. not f.done) N.nodes plain.rows undone) refl) (omega arith))
 
 -- ---- the events
+
+-- a file that is made where a node can be made has a new number
+pub create_counts : (N M : Names) (p q : Path) (id : ℕ) → M ≡ N → q ≡ p → id ≡ M.next_id → IsPlain M → place_test N p ≡ None → (has_place N q && is_new_id N id) ≡ true
+create_counts N M p q id same own next plain place =
+    let passed = none_holds (walk_fault (walk_above N.nodes p) ∷ refuse Exists (has_node N p) ∷ []) place in
+    let new : is_new_id M M.next_id ≡ true = ap is_none (next_is_new M M.nodes plain.rows) in
+    (λ i. has_place N (own i) && is_new_id (sym same i) (next i)) ∙ both (has_place N p) (is_new_id M M.next_id) (place_there N p passed.0 passed.1.0) new
 
 of_mkdir : (S : Setup) (A : State) (p : Path) → is_path p ≡ true → mkdir_refusal S A p ≡ None → Fits A.names (Change.Mkdir p)
 of_mkdir S A p form h =

@@ -6,3 +6,4 @@ pub mod Stay
 pub mod Texts
 pub mod Fitting
 pub mod KeptLaws
+pub mod FirstMount

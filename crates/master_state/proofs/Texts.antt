@@ -19,10 +19,10 @@ use Rattle.inode_tree.proofs.Numbers.{both}
 use Rattle.master_state.specs.Walks.{is_open}
 use Rattle.master_state.specs.Plain.{IsPlain, is_plain_row, is_plain_node, are_plain_mounts}
 
-is_le : (m n : ℕ) → nat_le m n ≡ true → m ≤ n
+pub is_le : (m n : ℕ) → nat_le m n ≡ true → m ≤ n
 is_le m n h = grind (arith, h)
 
-passes_le : (m n : ℕ) → m ≤ n → nat_le m n ≡ true
+pub passes_le : (m n : ℕ) → m ≤ n → nat_le m n ≡ true
 passes_le m n le = grind (arith, le)
 
 -- an entry whose body the machine counts short has a text

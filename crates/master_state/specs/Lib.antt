@@ -5,6 +5,7 @@ pub mod Effect
 pub mod Plain
 pub mod View
 pub mod Kept
+pub mod Places
 pub mod Finishing
 pub mod Laws
 pub mod Examples

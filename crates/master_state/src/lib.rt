@@ -2,8 +2,11 @@
 #![tactic(auto)]
 
 mod form;
+mod fresh;
 mod kept;
 pub mod laws;
 pub mod mount;
 pub mod names;
 mod ready;
+#[cfg(test)]
+mod tests;

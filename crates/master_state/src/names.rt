@@ -1,13 +1,18 @@
 //! The names, as the journal's entries leave them.
 
-ghost use Rattle.std.specs.Prelude.{◌≡◌, true, Some, length, IfOk, OnOk, OnErr, IfSome, option_map};
+ghost use Rattle.std.specs.Prelude.{◌≡◌, true, false, not, Some, None, length, IfOk, OnOk, OnErr, IfSome, option_map};
 ghost use Rattle.std.specs.List.{list_all};
 ghost use Rattle.std.specs.Option.{option_copied};
-ghost use Rattle.fs_model.specs.Lookups.{find_node, walk_nodes, walk_above, has_node, row_of, path_of, children};
+ghost use Rattle.fs_model.specs.declared.reply.Reply.{Reply};
+ghost use Rattle.fs_model.specs.declared.reply.Stored as stored;
+ghost use Rattle.fs_model.specs.Lookups.{file_of, find_node, walk_nodes, walk_above, has_node, row_of, path_of, children};
 ghost use Rattle.fs_model.specs.Changes.{no_names};
+ghost use Rattle.journal_entry.specs.declared.entry.Entry.{Entry};
 ghost use Rattle.journal_entry.specs.EntryText.{fits};
 ghost use Rattle.journal_entry.specs.Meaning.{checkpoint_entries};
 ghost use Rattle.inode_tree.specs.Rows.{node_of, row_of_node, leads_to, IfFound};
+ghost use Rattle.master_state.specs.Fits.{file_passes};
+ghost use Rattle.master_state.specs.Places.{place_test, is_full, is_numbered_out};
 ghost use Rattle.master_state.specs.Effect.{counts_in, taken, meaning};
 ghost use Rattle.master_state.specs.Kept.{mount_rows};
 ghost use Rattle.master_state.specs.View.{Need, need_of};
@@ -19,11 +24,18 @@ use crate::ready::Ready;
 use fs_model::name::Name;
 use fs_model::numbers::{FileId, PlanNo};
 use fs_model::path::Path;
+use fs_model::reply::{Refusal, Stored};
 use inode_tree::row::{Row, Walk};
 use journal_entry::entry::{Entries, Entry};
 use std::alloc::{AllocError, Global};
 use std::marker::Model;
 use std::mem;
+
+/// The most nodes that there may be, `/` counted.
+const NODES: usize = 1_048_576;
+
+/// No file gets this number or one above it.
+const NUMBERS: u64 = 1 << 63;
 
 /// The names that the journal keeps: the nodes, the mount of `/`, and the next numbers. A contract sees them as the
 /// machine's names, and what is ready for the next entry.
@@ -214,5 +226,93 @@ impl Names {
         ensures { IfOk result (λ names. names.items ≡ children self.now.names path.now) }
     {
         self.kept.tree.list(alloc, path)
+    }
+
+    /// Whether there is a file with this number that isn't done; takes no memory.
+    pub fn is_undone(&self, id: FileId) -> bool
+        ensures { result ≡ file_passes (λ f. not f.done) (file_of self.now.names id) }
+    {
+        self.kept.is_undone(id)
+    }
+
+    /// Why no node can be made at the path, if none can; takes no memory.
+    pub fn place_refusal(&self, path: &Path) -> Option<Refusal>
+        ensures { option_map Reply.Refused result ≡ place_test self.now.names path.now }
+    {
+        match self.kept.tree.walk_above(path) {
+            Walk::Absent => Some(Refusal::NotFound),
+            Walk::Blocked => Some(Refusal::NotDirectory),
+            Walk::Found(_) => {
+                if self.kept.tree.contains(path) {
+                    return Some(Refusal::Exists);
+                }
+                None
+            }
+        }
+    }
+
+    /// Whether one node more is too many; takes no memory.
+    pub fn is_full(&self) -> bool
+        ensures { result ≡ is_full self.now.names }
+    {
+        self.kept.tree.len() >= NODES
+    }
+
+    /// Whether no number is left for a file; takes no memory.
+    pub fn is_numbered_out(&self) -> bool
+        ensures { result ≡ is_numbered_out self.now.names }
+    {
+        self.kept.next_id >= NUMBERS
+    }
+
+    /// The entry that makes a directory where a node can be made: it counts, and has a text.
+    ///
+    /// An `Err` is want of memory.
+    pub fn mkdir(&self, path: &Path) -> Result<Entry, AllocError>
+        requires place { place_test self.now.names path.now ≡ None }
+        ensures entry { IfOk result (λ e. e ≡ Entry.Mkdir path.now) }
+        ensures counts { IfOk result (λ e. counts_in e self.now.names ≡ true) }
+        ensures text { IfOk result (λ e. fits e ≡ true) }
+    {
+        let entry = Entry::Mkdir {
+            path: path.clone()?,
+        };
+        look_at(&entry);
+        Ok(entry)
+    }
+
+    /// The entry that makes a file, with the next number, where a node can be made: it counts, and has a text.
+    ///
+    /// An `Err` is want of memory.
+    pub fn create(&self, path: &Path) -> Result<Entry, AllocError>
+        requires place { place_test self.now.names path.now ≡ None }
+        requires number { is_numbered_out self.now.names ≡ false }
+        ensures entry { IfOk result (λ e. e ≡ Entry.Create self.now.names.next_id path.now) }
+        ensures counts { IfOk result (λ e. counts_in e self.now.names ≡ true) }
+        ensures text { IfOk result (λ e. fits e ≡ true) }
+    {
+        let entry = Entry::Create {
+            id: FileId(self.kept.next_id),
+            path: path.clone()?,
+        };
+        look_at(&entry);
+        Ok(entry)
+    }
+
+    /// The entry that a file which isn't done is done with, with `len` bytes that aren't to be stored: it counts, and
+    /// has a text. It takes no memory.
+    pub fn finish(&self, id: FileId, len: u64) -> Entry
+        requires undone { file_passes (λ f. not f.done) (file_of self.now.names id) ≡ true }
+        ensures entry { result ≡ Entry.Done id len stored.Stored.No 0 }
+        ensures counts { counts_in result self.now.names ≡ true }
+        ensures text { fits result ≡ true }
+    {
+        let _kept = &self.kept;
+        Entry::Done {
+            id,
+            len,
+            stored: Stored::No,
+            plan: PlanNo(0),
+        }
     }
 }
