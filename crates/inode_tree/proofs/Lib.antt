@@ -6,3 +6,4 @@ pub mod Places
 pub mod Numbers
 pub mod Files
 pub mod Removals
+pub mod FileSet

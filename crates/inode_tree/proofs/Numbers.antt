@@ -95,7 +95,7 @@ module _ (f : File) (change : File → File) where
       is_no true b e h = cc
       is_no false b e h = sym e
 
-  others_stay : (rows : List NodeRow) → list_all (differ (Some f.id)) (ids_of rows) ≡ true → file_changed f.id change rows ≡ rows
+  pub others_stay : (rows : List NodeRow) → list_all (differ (Some f.id)) (ids_of rows) ≡ true → file_changed f.id change rows ≡ rows
   others_stay [] h = refl
   others_stay (r ∷ rows) h =
       let parts = and_parts (differ (Some f.id) (file_id r.1)) (list_all (differ (Some f.id)) (ids_of rows)) h in

@@ -6,7 +6,9 @@ use Rattle.fs_model.specs.State.{Node, File, NodeRow}
 use Rattle.fs_model.specs.Lookups as machine
 use Rattle.fs_model.specs.Lookups.{id_is}
 use Rattle.fs_model.specs.Changes.{set_file}
+use Rattle.fs_model.specs.declared.path.Path.{Path}
 use Rattle.inode_tree.specs.declared.row.Row.{Row}
+use Rattle.inode_tree.specs.declared.row.PathRow.{PathRow}
 use Rattle.inode_tree.specs.declared.row.Walk.{Walk}
 
 -- a tree, as its nodes in the order of their paths, and how many nodes more there is room for
@@ -40,6 +42,14 @@ file_id (Node.IsFile f) = Some f.id
 abbrev pub row_of_node : Node → Row
 row_of_node Node.Directory = directory_row
 row_of_node (Node.IsFile f) = record { dir = false; id = f.id; len = f.len; done = f.done; stored = f.stored; pinned = f.pinned }
+
+-- a path with the row that a tree tells of its node
+abbrev pub row_told : NodeRow → Path × Row
+row_told r = (r.0, row_of_node r.1)
+
+-- a path with its row
+abbrev pub path_row : PathRow → Path × Row
+path_row r = (r.path, r.row)
 
 -- where a walk led, as the machine says it
 abbrev pub leads_to : Walk → machine.Walk

@@ -1,15 +1,16 @@
 //! Nodes with their paths, and the search in a list of them that stands in the order of the paths.
 
-ghost use Rattle.std.specs.Prelude.{◌≡◌, ◌≤◌, ◌<◌, [], ◌∷◌, true, false, length, take, drop, map, insert, option_map, Some, None, IfOk, is_some};
+ghost use Rattle.std.specs.Prelude.{◌≡◌, ◌≤◌, ◌<◌, [], ◌∷◌, true, false, length, take, drop, map, insert, option_map, Some, None, IfOk, is_some, cond};
 ghost use Rattle.std.specs.List.{AllWithin};
 ghost use Rattle.std.specs.Option.{option_copied};
 ghost use Rattle.fs_model.specs.State.{Node};
 ghost use Rattle.fs_model.specs.Words.{path_lt, under};
 ghost use Rattle.fs_model.specs.Lookups.{find_node, walk_above, child_name, names_in, id_is};
-ghost use Rattle.inode_tree.specs.Rows.{node_of, directory_row, row_of_node, leads_to, IfFound, file_row};
+ghost use Rattle.fs_model.specs.Changes as machine;
+ghost use Rattle.inode_tree.specs.Rows.{node_of, directory_row, row_of_node, leads_to, IfFound, file_row, file_in_row, file_changed, path_row, row_told};
 ghost use Rattle.inode_tree.specs.Entries.{node_in, node_row, node_rows, in_order};
 
-use crate::row::{DIRECTORY, Row, Walk};
+use crate::row::{DIRECTORY, PathRow, Row, Walk};
 use fs_model::name::Name;
 use fs_model::path::Path;
 use fs_model::reply::Stored;
@@ -83,6 +84,17 @@ impl Inode {
             Inode::Directory => false,
             Inode::File { id, .. } => id == wanted,
         }
+    }
+
+    /// The file of this row, where the node is the file with its number, else the node as it is.
+    fn or_file(self, row: Row) -> Inode
+        requires { row.dir ≡ false }
+        ensures { node_in result ≡ cond (id_is row.id (node_in self)) (machine.set_file (λ f. file_in_row row) (node_in self)) (node_in self) }
+    {
+        if self.has_id(row.id) {
+            return Inode::of(row);
+        }
+        self
     }
 }
 
@@ -187,4 +199,28 @@ pub(crate) fn file_entry(entries: &[Entry], id: u64) -> Option<&Entry>
         }
     }
     None
+}
+
+/// Copies of the entries' paths, with their rows.
+pub(crate) fn rows_of(alloc: Global, entries: &[Entry]) -> Result<Vec<PathRow>, AllocError>
+    ensures { IfOk result (λ rows. map path_row rows.items ≡ map row_told (node_rows entries.now)) }
+{
+    let mut rows = Vec::new(alloc);
+    for entry in entries {
+        rows.push(PathRow {
+            path: entry.path.clone()?,
+            row: entry.inode.row(),
+        })?;
+    }
+    Ok(rows)
+}
+
+/// Puts a file's row in place of that of the file with its number.
+pub(crate) fn set_file(entries: &mut [Entry], row: Row)
+    requires { row.dir ≡ false }
+    ensures { node_rows entries.new ≡ file_changed row.id (λ f. file_in_row row) (node_rows entries.old) }
+{
+    for entry in entries.iter_mut() {
+        entry.inode = entry.inode.or_file(row);
+    }
 }

@@ -1,5 +1,6 @@
 //! The rows of the tree, and where a path leads.
 
+use fs_model::path::Path;
 use fs_model::reply::Stored;
 
 /// A node: a directory, or a file with what is kept of it.
@@ -17,6 +18,13 @@ pub struct Row {
     pub stored: Stored,
     /// Whether the file is pinned.
     pub pinned: bool,
+}
+
+/// A node with its path.
+#[derive(Debug, Drop)]
+pub struct PathRow {
+    pub path: Path,
+    pub row: Row,
 }
 
 /// The row of each directory.

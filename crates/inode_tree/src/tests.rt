@@ -1,5 +1,7 @@
 //! What trees made of paths in text answer.
 
+ghost use Rattle.std.specs.Prelude.{◌≡◌, false};
+
 use crate::row::{DIRECTORY, Row, Walk};
 use crate::tree::Tree;
 use fs_model::numbers::FileId;
@@ -9,7 +11,9 @@ use std::alloc::Global;
 use std::test::Fail;
 
 /// A file with this number.
-fn file(id: u64) -> Row {
+fn file(id: u64) -> Row
+    ensures { result.dir ≡ false }
+{
     Row {
         dir: false,
         id,
@@ -248,5 +252,47 @@ fn nodes_for_which_there_is_room_come_in(rt: HostRuntime) -> Result<(), Fail> {
         listed(&tree, rt.alloc(), "/a")?.as_slice(),
         "x y z".as_bytes()
     );
+    Ok(())
+}
+
+#[test]
+fn a_file_is_set_by_its_number(rt: HostRuntime) -> Result<(), Fail> {
+    let mut tree = sample(rt.alloc())?;
+    let longer = Row { len: 5, ..file(8) };
+    tree.set_file(longer);
+    tree.set_file(file(9));
+    for (text, row) in [
+        ("/a/x/deep", longer),
+        ("/a/y", file(7)),
+        ("/a/x", DIRECTORY),
+    ] {
+        let path = Path::read(rt.alloc(), text.as_bytes())?;
+        assert_eq!(rt; tree.walk(&path), Walk::Found(row), "{text}");
+    }
+    assert_eq!(rt; tree.len(), 7);
+    Ok(())
+}
+
+#[test]
+fn all_nodes_are_told_in_the_order_of_their_paths(rt: HostRuntime) -> Result<(), Fail> {
+    let tree = sample(rt.alloc())?;
+    let rows = tree.rows(rt.alloc())?;
+    let all = [
+        ("/", DIRECTORY),
+        ("/a", DIRECTORY),
+        ("/a/x", DIRECTORY),
+        ("/a/x/deep", file(8)),
+        ("/a/y", file(7)),
+        ("/a!", DIRECTORY),
+        ("/ab", DIRECTORY),
+    ];
+    assert_eq!(rt; rows.len(), all.len());
+    for (told, (text, row)) in rows.iter().zip(all) {
+        assert!(rt;
+            told.path == Path::read(rt.alloc(), text.as_bytes())?,
+            "{text}"
+        );
+        assert_eq!(rt; told.row, row, "{text}");
+    }
     Ok(())
 }

@@ -1,18 +1,19 @@
 //! The tree of names.
 
-ghost use Rattle.std.specs.Prelude.{◌≡◌, ◌≤◌, ◌<◌, ◌+◌, ◌∷◌, [], true, false, Some, None, length, IfOk, OnOk, OnErr, IfNone, IfSome, is_some, not, option_map};
+ghost use Rattle.std.specs.Prelude.{◌≡◌, ◌≤◌, ◌<◌, ◌+◌, ◌∷◌, [], true, false, Some, None, length, IfOk, OnOk, OnErr, IfNone, IfSome, is_some, not, map, option_map};
 ghost use Rattle.std.specs.Bool.{OnFalse};
-ghost use Rattle.fs_model.specs.State.{Node, File};
+ghost use Rattle.fs_model.specs.State.{Node, NodeRow, File};
 ghost use Rattle.fs_model.specs.Lookups as machine;
 ghost use Rattle.fs_model.specs.Lookups.{find_node, walk_nodes, walk_above, names_in};
 ghost use Rattle.fs_model.specs.Words.{under};
 ghost use Rattle.fs_model.specs.Changes.{put_node, keep_nodes};
-ghost use Rattle.inode_tree.specs.Rows.{node_of, directory_row, row_of_node, leads_to, IfFound, OnFound, OnBlocked, file_row, file_id, file_changed};
+ghost use Rattle.inode_tree.specs.Rows.{node_of, directory_row, row_of_node, leads_to, IfFound, OnFound, OnBlocked, file_row, file_id, file_in_row, file_changed, path_row, row_told};
 
 use crate::entry::{
-    Entry, Inode, children, entries_under, file_entry, inode_at, place_of, walk_prefixes,
+    Entry, Inode, children, entries_under, file_entry, inode_at, place_of, rows_of, set_file,
+    walk_prefixes,
 };
-use crate::row::{Row, Walk};
+use crate::row::{PathRow, Row, Walk};
 use fs_model::name::Name;
 use fs_model::numbers::FileId;
 use fs_model::path::Path;
@@ -188,12 +189,34 @@ impl Tree {
         self.entries[at].inode = Inode::of(row);
     }
 
+    /// Puts a file's row in place of that of the file with its number, where there is one; takes no memory. All other
+    /// nodes stay as they are.
+    pub fn set_file(&mut self, row: Row)
+        requires file { row.dir ≡ false }
+        ensures nodes { self.new.nodes ≡ file_changed row.id (λ f. file_in_row row) self.old.nodes }
+        ensures room { self.new.room ≡ self.old.room }
+
+        // Of the file that is there it is a change.
+        ensures change { (r : NodeRow) (f : File) (change : File → File) → file_row self.old.nodes row.id ≡ Some r → r.1 ≡ Node.IsFile f → file_in_row row ≡ change f → self.new.nodes ≡ file_changed row.id change self.old.nodes }
+    {
+        set_file(&mut self.entries, row);
+    }
+
     /// Takes the node at the path out, with all below it; takes no memory. All other nodes stay as they are.
     pub fn remove(&mut self, path: &Path)
         ensures nodes { self.new.nodes ≡ keep_nodes (λ x. not (under x path.now)) self.old.nodes }
         ensures room { self.old.room ≤ self.new.room }
     {
         self.entries.retain(|entry| !entry.path.under(path));
+    }
+
+    /// All nodes with their paths, in the order of the paths.
+    ///
+    /// An `Err` is want of memory.
+    pub fn rows(&self, alloc: Global) -> Result<Vec<PathRow>, AllocError>
+        ensures { IfOk result (λ rows. map path_row rows.items ≡ map row_told self.now.nodes) }
+    {
+        rows_of(alloc, &self.entries)
     }
 
     /// The names right below the path, in the order of their bytes. It looks at the nodes below the path alone.

@@ -13,3 +13,4 @@ pub mod Renewed
 pub mod Counts
 pub mod TextRead
 pub mod TextWritten
+pub mod Checkpoints

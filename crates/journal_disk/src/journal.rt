@@ -71,6 +71,13 @@ impl<D: Disk> Journal<D> {
         self.fresh
     }
 
+    /// Whether a call of an area has failed. The journal then takes no more.
+    pub fn has_failed(&self) -> bool
+        ensures { result ≡ self.now.failed }
+    {
+        self.failed
+    }
+
     /// The place of the closed gate, in bytes from the front of the current area.
     pub fn gate(&self) -> u64
         ensures { result ≡ self.now.gate }

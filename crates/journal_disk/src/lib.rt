@@ -2,12 +2,15 @@
 //! call leaves the entries so far, with or without the one in hand.
 #![tactic(auto)]
 
+mod checkpoint;
 mod closing;
 mod fault;
 mod journal;
 mod reading;
 mod recover;
 mod staging;
+#[cfg(test)]
+mod tests;
 mod text;
 
 pub use fault::{AppendFault, RecoverFault};
