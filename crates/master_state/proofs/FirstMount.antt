@@ -1,6 +1,6 @@
 -- The names over a fresh journal are those after the mount of `/`.
-use Rattle.std.proofs.Common.{◌≡◌, ℕ, ◌≤◌, Bool, true, false, not, ◌&&◌, ◌||◌, nat_lt, nat_le, List, [], ◌∷◌, length, Option, Some, None, codes, nat_eq, refl, sym, ap, ◌∙◌, subst, arith}
-use Rattle.std.specs.List.{list_all, starts_with}
+use Rattle.std.proofs.Common.{◌≡◌, ℕ, ◌≤◌, Bool, true, false, not, ◌&&◌, ◌||◌, nat_lt, nat_le, List, [], ◌∷◌, length, Option, Some, None, codes, refl, sym, ap, ◌∙◌, arith}
+use Rattle.std.specs.List.{list_all}
 use Rattle.std.specs.Str.{bytes_eq, is_utf8}
 use Rattle.std.specs.Cmp.Lexicographic.{bytes_decides}
 use Rattle.std.proofs.lemmas.Bool.{and_parts}
@@ -16,7 +16,7 @@ use Rattle.fs_model.proofs.TextLengths.{key_len-key_text}
 use Rattle.journal_entry.specs.declared.entry.Entry.{Entry}
 use Rattle.journal_entry.specs.EntryText.{fits}
 use Rattle.inode_tree.proofs.Numbers.{both}
-use Rattle.master_state.specs.Effect.{taken, counts_in}
+use Rattle.master_state.specs.Effect.{taken}
 use Rattle.master_state.proofs.Again.{counted}
 use Rattle.master_state.proofs.Texts.{has_text, is_le, passes_le}
 

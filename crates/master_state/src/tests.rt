@@ -1,10 +1,15 @@
 //! What small journals stand for.
 
+ghost use Rattle.std.specs.Prelude.{◌≡◌, true};
+ghost use Rattle.fs_model.specs.Spelled.{is_setup};
+
 use crate::names::Names;
+use fs_model::items::Items;
 use fs_model::numbers::{FileId, PlanNo, StoreNo};
 use fs_model::path::Path;
 use fs_model::prefix::Prefix;
-use fs_model::reply::Stored;
+use fs_model::reply::{Refusal, Stored};
+use fs_model::setup::Setup;
 use inode_tree::row::{DIRECTORY, Row, Walk};
 use journal_entry::entry::{Entries, Entry};
 use std::alloc::Global;
@@ -246,5 +251,66 @@ fn an_entry_that_is_ready_is_applied(rt: HostRuntime) -> Result<(), Fail> {
     assert!(rt; names.file(FileId(9)).is_none());
     assert_eq!(rt; names.list(alloc, &path(alloc, "/a")?)?.len(), 2);
     assert_eq!(rt; names.walk_above(&path(alloc, "/a/g/h")?), Walk::Blocked);
+    Ok(())
+}
+
+/// A configuration with `/` at the empty key.
+fn setup(alloc: Global) -> Setup
+    ensures { is_setup result ≡ true }
+{
+    Setup {
+        block: 4,
+        patience: 3,
+        area: 1024,
+        root: Items::from_vec(Vec::new(alloc)),
+        stores: 1,
+        tiers: Items::from_vec(Vec::new(alloc)),
+    }
+}
+
+/// Makes a directory where one can be made, and answers why not.
+fn make(names: &mut Names, path: &Path) -> Result<Option<Refusal>, Fail> {
+    let refusal = names.place_refusal(path);
+    if refusal.is_some() {
+        return Ok(refusal);
+    }
+    let entry = names.mkdir(path)?;
+    names.take(&entry)?;
+    Ok(None)
+}
+
+/// Makes a file where one can be made, finishes it, and says whether it could be.
+fn make_file(names: &mut Names, path: &Path) -> Result<bool, Fail> {
+    if names.place_refusal(path).is_some() || names.is_full() || names.is_numbered_out() {
+        return Ok(false);
+    }
+    let (id, _) = names.next_numbers();
+    let entry = names.create(path)?;
+    names.take(&entry)?;
+    if !names.is_undone(id) {
+        return Ok(false);
+    }
+    names.take(&names.finish(id, 5))?;
+    Ok(true)
+}
+
+#[test]
+fn nodes_are_made_where_they_can_be(rt: HostRuntime) -> Result<(), Fail> {
+    let alloc = rt.alloc();
+    let mut names = Names::fresh(alloc, &setup(alloc))?;
+    assert!(rt; names.mount().is_some());
+    for (text, refusal) in [
+        ("/", Some(Refusal::Exists)),
+        ("/a/b", Some(Refusal::NotFound)),
+        ("/a", None),
+        ("/a", Some(Refusal::Exists)),
+        ("/a/b", None),
+    ] {
+        assert!(rt; make(&mut names, &path(alloc, text)?)? == refusal, "{text}");
+    }
+    assert!(rt; make_file(&mut names, &path(alloc, "/a/f")?)?);
+    assert!(rt; !make_file(&mut names, &path(alloc, "/a/f")?)?);
+    assert!(rt; make(&mut names, &path(alloc, "/a/f/g")?)? == Some(Refusal::NotDirectory));
+    assert_eq!(rt; names.nodes(), 4);
     Ok(())
 }
