@@ -4,8 +4,8 @@ mod bytes;
 mod damaged;
 mod plain;
 
-ghost use Rattle.std.specs.Prelude.{◌≡◌, true};
-ghost use Rattle.std.specs.List.{AllPass};
+ghost use Rattle.std.specs.Prelude.{◌≡◌};
+ghost use Rattle.std.specs.List.{list_all};
 ghost use Rattle.journal_entry.specs.EntryText.{fits};
 
 use crate::fault::{AppendFault, RecoverFault};
@@ -65,14 +65,9 @@ fn append(
 
 /// Whether each entry fits.
 fn all_fit(entries: &[Entry]) -> bool
-    ensures { result ≡ true → AllPass fits entries.now }
+    ensures { result ≡ list_all fits entries.now }
 {
-    for entry in entries {
-        if !entry.fits() {
-            return false;
-        }
-    }
-    true
+    entries.iter().all(|e| e.fits())
 }
 
 /// Makes a checkpoint of these entries, which fit, in a journal in which no call failed.

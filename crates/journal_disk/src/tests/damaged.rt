@@ -23,6 +23,11 @@ fn answer(alloc: Global, a: &[u8], b: &[u8]) -> Result<Answer, Fail> {
     }
 }
 
+/// So many of the bytes.
+fn cut(bytes: &[u8], end: usize) -> &[u8] {
+    bytes.get(..end).unwrap_or(bytes)
+}
+
 /// The bytes with another one at this place.
 fn changed(alloc: Global, bytes: &[u8], place: usize, byte: u8) -> Result<Vec<u8>, Fail> {
     let mut area = Vec::from_slice(alloc, bytes)?;
@@ -32,47 +37,70 @@ fn changed(alloc: Global, bytes: &[u8], place: usize, byte: u8) -> Result<Vec<u8
     Ok(area)
 }
 
+/// Checks what the opening of an area answers that stands alone.
+fn check(rt: &impl Abort, alloc: Global, area: &[u8], expected: Answer) -> Result<(), Fail> {
+    assert_eq!(rt; answer(alloc, area, b"")?, expected);
+    Ok(())
+}
+
+/// The same for the first area, cut to so many bytes.
+fn check_cut(rt: &impl Abort, alloc: Global, end: usize, expected: Answer) -> Result<(), Fail> {
+    check(rt, alloc, cut(FIRST, end), expected)
+}
+
+/// The same for the first area with another byte at this place.
+fn check_byte(
+    rt: &impl Abort,
+    alloc: Global,
+    place: usize,
+    byte: u8,
+    expected: Answer,
+) -> Result<(), Fail> {
+    let area = changed(alloc, FIRST, place, byte)?;
+    check(rt, alloc, &area, expected)
+}
+
+#[test]
+fn a_cut_area_is_damaged_at_its_end(rt: HostRuntime) -> Result<(), Fail> {
+    let alloc = rt.alloc();
+    check_cut(&rt, alloc, 65, Ok(Some(3)))?;
+    check_cut(&rt, alloc, 64, Err((0, 64)))?;
+    check_cut(&rt, alloc, 60, Err((0, 54)))?;
+    check_cut(&rt, alloc, 54, Err((0, 54)))?;
+    check_cut(&rt, alloc, 9, Ok(None))
+}
+
 #[test]
 fn damage_has_its_place(rt: HostRuntime) -> Result<(), Fail> {
     let alloc = rt.alloc();
-    assert_eq!(rt; answer(alloc, FIRST, b"")?, Ok(Some(3)));
-    assert_eq!(rt; answer(alloc, &FIRST[..64], b"")?, Err((0, 64)));
-    assert_eq!(rt; answer(alloc, &FIRST[..60], b"")?, Err((0, 54)));
-    assert_eq!(rt; answer(alloc, &FIRST[..54], b"")?, Err((0, 54)));
-    assert_eq!(rt; answer(alloc, &FIRST[..9], b"")?, Ok(None));
-    assert_eq!(rt;
-        answer(alloc, &changed(alloc, FIRST, 0, 0)?, b"")?,
-        Ok(None)
-    );
-    assert_eq!(rt;
-        answer(alloc, &changed(alloc, FIRST, 64, 2)?, b"")?,
-        Err((0, 64))
-    );
-    assert_eq!(rt;
-        answer(alloc, &changed(alloc, FIRST, 63, b'/')?, b"")?,
-        Err((0, 54))
-    );
-    assert_eq!(rt;
-        answer(alloc, &changed(alloc, FIRST, 54, 2)?, b"")?,
-        Ok(Some(3))
-    );
-    assert_eq!(rt;
-        answer(alloc, &changed(alloc, FIRST, 54, 0)?, b"")?,
-        Ok(Some(2))
-    );
+    check_byte(&rt, alloc, 0, 0, Ok(None))?;
+    check_byte(&rt, alloc, 64, 2, Err((0, 64)))?;
+    check_byte(&rt, alloc, 63, b'/', Err((0, 54)))?;
+    check_byte(&rt, alloc, 54, 2, Ok(Some(3)))?;
+    check_byte(&rt, alloc, 54, 0, Ok(Some(2)))
+}
+
+/// Checks what the opening of two areas answers.
+fn check_both(
+    rt: &impl Abort,
+    alloc: Global,
+    a: &[u8],
+    b: &[u8],
+    expected: Answer,
+) -> Result<(), Fail> {
+    assert_eq!(rt; answer(alloc, a, b)?, expected);
     Ok(())
 }
 
 #[test]
 fn the_greater_generation_counts(rt: HostRuntime) -> Result<(), Fail> {
     let alloc = rt.alloc();
-    assert_eq!(rt; answer(alloc, FIRST, SECOND)?, Ok(Some(3)));
-    assert_eq!(rt; answer(alloc, &FIRST[..60], SECOND)?, Ok(Some(3)));
-    assert_eq!(rt; answer(alloc, FIRST, &SECOND[..60])?, Err((1, 54)));
-    assert_eq!(rt; answer(alloc, SECOND, &FIRST[..60])?, Ok(Some(3)));
+    check_both(&rt, alloc, FIRST, SECOND, Ok(Some(3)))?;
+    check_both(&rt, alloc, cut(FIRST, 60), SECOND, Ok(Some(3)))?;
+    check_both(&rt, alloc, FIRST, cut(SECOND, 60), Err((1, 54)))?;
+    check_both(&rt, alloc, SECOND, cut(FIRST, 60), Ok(Some(3)))?;
     let equal = changed(alloc, SECOND, 8, 1)?;
-    assert_eq!(rt; answer(alloc, &FIRST[..60], &equal)?, Err((0, 54)));
-    Ok(())
+    check_both(&rt, alloc, cut(FIRST, 60), &equal, Err((0, 54)))
 }
 
 /// Checks that an opening answers what a plain reading does.
@@ -106,7 +134,7 @@ fn is_read_beside(rt: &impl Abort, alloc: Global, area: &[u8]) -> Result<(), Fai
 /// Checks all cuts of an area, and each of its bytes replaced.
 fn are_read(rt: &impl Abort, alloc: Global, area: &[u8]) -> Result<(), Fail> {
     for end in 0..area.len() {
-        is_read_beside(rt, alloc, &area[..end])?;
+        is_read_beside(rt, alloc, cut(area, end))?;
     }
     for place in 0..area.len() {
         for byte in [0u8, 1, 2, 255] {
