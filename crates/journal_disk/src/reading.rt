@@ -1,7 +1,9 @@
 //! Reading an area: its head, its bytes, and the entries that the bytes stand for.
 
-ghost use Rattle.std.specs.Prelude.{◌≡◌, ℕ, ◌<◌, ◌≤◌, ◌^◌, Err, None, Ok, List, length, IfOk, IsErrOf, IsTrue, OnErr};
+ghost use Rattle.std.specs.Prelude.{◌≡◌, ℕ, ◌<◌, ◌≤◌, ◌^◌, Err, None, Ok, List, length, true, IfOk, IsErrOf, IsTrue, OnErr};
+ghost use Rattle.std.specs.List.{list_all};
 ghost use Rattle.outside.specs.Causes.{Rose};
+ghost use Rattle.journal_entry.specs.EntryText.{is_entry};
 ghost use Rattle.journal_disk.specs.AreaText.{area_of, head_of, is_shut};
 ghost use Rattle.journal_disk.specs.Opening.{IsRead};
 ghost use Rattle.journal_disk.specs.declared.fault.RecoverFault.TheVariants.{Damaged, Failed};
@@ -109,6 +111,7 @@ pub(crate) fn read_area(
 ) -> Result<(Entries, u64), RecoverFault>
     ensures ok { IfOk result (λ x. area_of bytes.now ≡ Ok (x.0, x.1)) }
     ensures small { IfOk result (λ x. x.1 < 2 ^ 63) }
+    ensures entries { IfOk result (λ x. list_all is_entry x.0 ≡ true) }
     ensures damaged { (area place : ℕ) → IsErrOf result (Damaged area place) → (area ≡ number) × (area_of bytes.now ≡ Err place) }
     ensures failed { IsErrOf result Failed → ⊥ }
 {

@@ -1,9 +1,10 @@
 //! The opening of two areas that a crash may have left.
 
 ghost use Rattle.std.specs.Prelude.{◌≡◌, ℕ, ◌≤◌, ◌^◌, true, false, Some, None, IfErr, IfNone, IfOk, IfSome, IsErrOf, OnOk, IsTrue};
+ghost use Rattle.std.specs.List.{list_all};
 ghost use Rattle.std.specs.Vec.{vec_capacity};
 ghost use Rattle.outside.specs.Causes.{Rose};
-ghost use Rattle.journal_disk.specs.AreaText.{area_of, head_of, is_shut};
+ghost use Rattle.journal_entry.specs.EntryText.{is_entry};
 ghost use Rattle.journal_disk.specs.Areas.{area_number, chosen, first_of, second_of};
 ghost use Rattle.journal_disk.specs.Journaling.{IsAtRest, IsReady};
 ghost use Rattle.journal_disk.specs.Opening.{IsBroken, IsHeaded, IsOpened, IsRead, IsRecovered, IsUnread, Opens, OwnRose};
@@ -119,6 +120,7 @@ fn read_current<D: Disk>(
 
     ensures ok { IfOk result (λ r. IsOpened D.Disk second here there generation limit r.journal r.entries) }
     ensures fresh { IfOk result (λ r. r.fresh ≡ false) }
+    ensures entries { IfOk result (λ r. list_all is_entry r.entries ≡ true) }
     ensures unread { IfErr result (λ u. IsUnread D.Disk second here there u.here u.there u.why) }
 {
     let mut here = here;
@@ -181,6 +183,7 @@ fn fresh<D: Disk>(
     ensures limited { result.journal.limit ≡ limit }
     ensures sound { result.journal.failed ≡ false }
     ensures ready { IsReady D.Disk result.journal result.entries }
+    ensures entries { list_all is_entry result.entries ≡ true }
 {
     let journal = Journal {
         here: b,
@@ -223,6 +226,7 @@ impl<D: Disk> Journal<D> {
 
         ensures recovered { IfOk result (λ r. IsRecovered D.Disk a b limit r.journal r.entries) }
         ensures fresh { IfOk result (λ r. r.fresh ≡ r.journal.fresh) }
+        ensures entries { IfOk result (λ r. list_all is_entry r.entries ≡ true) }
         ensures broken { IfErr result (λ e. IsBroken D.Disk a b e.a e.b e.why) }
     {
         let mut a = a;

@@ -9,9 +9,9 @@ ghost use Rattle.outside_mem.specs.Named.{shelf_of, told_of};
 ghost use Rattle.node_main.specs.Files.{file_left, is_named};
 
 use outside::media::{Media, MediaNames};
-use outside_mem::{MemObjects, MemShelf};
 use outside::stream::{Fault, Sink, Source};
 use outside::world::{Fail, World};
+use outside_mem::{MemObjects, MemShelf};
 use std::alloc::Global;
 use std::fs::{self, File};
 use std::io::{Print, Printer, Read, Write};

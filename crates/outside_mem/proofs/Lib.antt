@@ -9,4 +9,5 @@ pub mod Lending
 pub mod NewMedia
 pub mod DiskLogs
 pub mod Moments
+pub mod Images
 pub mod Disks

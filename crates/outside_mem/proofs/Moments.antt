@@ -10,7 +10,7 @@ use Rattle.outside_mem.specs.Moments.{moment_after, moment_after_all, moment_at}
 use Rattle.outside_mem.specs.declared.disk_log.DiskCall.{DiskCall}
 
 -- one call adds one moment
-now_one : (bytes : List ℕ) (call : DiskCall) (h : History) → (after_one bytes call h).now ≡ moment_after bytes call h.now
+pub now_one : (bytes : List ℕ) (call : DiskCall) (h : History) → (after_one bytes call h).now ≡ moment_after bytes call h.now
 now_one bytes (DiskCall.Write at len) h = refl
 now_one bytes DiskCall.Sync h = refl
 

@@ -8,11 +8,11 @@ use Rattle.outside_mem.specs.declared.disk_log.DiskCall.{DiskCall}
 
 -- ---- a piece over others
 
-overwritten_len : (at : ℕ) (piece old : List ℕ) → length (overwritten at piece old) ≡ min at (length old) + length piece + (length old - (at + length piece))
+pub overwritten_len : (at : ℕ) (piece old : List ℕ) → length (overwritten at piece old) ≡ min at (length old) + length piece + (length old - (at + length piece))
 overwritten_len at piece old = omega (arith, length-append (take at old ++ piece) (drop (at + length piece) old), length-append (take at old) piece, length-take at old, length-drop (at + length piece) old)
 
 -- below the piece all is as before
-before_piece : (at : ℕ) (piece old : List ℕ) (place : ℕ) → place < length old → place < at → slice_index (overwritten at piece old) place ≡ slice_index old place
+pub before_piece : (at : ℕ) (piece old : List ℕ) (place : ℕ) → place < length old → place < at → slice_index (overwritten at piece old) place ≡ slice_index old place
 before_piece at piece old place within below =
     let front : place < length (take at old) = omega (arith, length-take at old, within, below) in
     get_or_append_left (take at old ++ piece) (drop (at + length piece) old) 0 place (omega (arith, length-append (take at old) piece, front))
@@ -20,7 +20,7 @@ before_piece at piece old place within below =
     ∙ get_or-take at old place 0 below
 
 -- and so it is behind it
-behind_piece : (at : ℕ) (piece old : List ℕ) (place : ℕ) → place < length old → at + length piece ≤ place → slice_index (overwritten at piece old) place ≡ slice_index old place
+pub behind_piece : (at : ℕ) (piece old : List ℕ) (place : ℕ) → place < length old → at + length piece ≤ place → slice_index (overwritten at piece old) place ≡ slice_index old place
 behind_piece at piece old place within behind =
     let end = at + length piece in
     let len : length (take at old ++ piece) ≡ end = omega (arith, length-append (take at old) piece, length-take at old, within, behind) in
@@ -39,10 +39,10 @@ torn at piece old = record {
 -- ---- images
 
 -- of a moment, what a read gives is an image
-abbrev IsRead : Moment → Type 0
+abbrev pub IsRead : Moment → Type 0
 IsRead m = IsImage m m.held
 
-read_first : (bytes : List ℕ) → IsRead (beginning bytes).now
+pub read_first : (bytes : List ℕ) → IsRead (beginning bytes).now
 read_first bytes = record { no_shorter = omega arith; no_longer = omega arith; kept = λ place within apart. refl }
 
 read_written : (at : ℕ) (piece : List ℕ) (h : History) → IsRead h.now → IsRead (written at piece h).now
@@ -61,7 +61,7 @@ read_one : (bytes : List ℕ) (call : DiskCall) (h : History) → IsRead h.now �
 read_one bytes (DiskCall.Write at len) h read = read_written at (take len bytes) h read
 read_one bytes DiskCall.Sync h read = read_synced h
 
-read_all : (bytes : List ℕ) (calls : List DiskCall) (h : History) → IsRead h.now → IsRead (after_all bytes calls h).now
+pub read_all : (bytes : List ℕ) (calls : List DiskCall) (h : History) → IsRead h.now → IsRead (after_all bytes calls h).now
 read_all bytes [] h read = read
 read_all bytes (call ∷ calls) h read = read_all (behind bytes call) calls (after_one bytes call h) (read_one bytes call h read)
 

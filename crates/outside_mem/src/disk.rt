@@ -1,18 +1,18 @@
 //! A disk in memory.
 
-ghost use Rattle.std.specs.Prelude.{◌≡◌, ℕ, ◌+◌, ◌-◌, ◌≤◌, ◌++◌, length, take, drop, min, true, is_err, IfOk, IsTrue, OnOk, OnErr};
+ghost use Rattle.std.specs.Prelude.{◌≡◌, ℕ, ◌+◌, ◌-◌, ◌≤◌, ◌++◌, length, take, drop, min, true, is_err, option_map, IfOk, IfSome, IsTrue, OnOk, OnErr};
 ghost use Rattle.outside.specs.Causes.{HasCause};
 ghost use Rattle.outside.specs.History.{IsCovered, MayWrite, Spends, after_sync, beginning, written};
 ghost use Rattle.outside_mem.specs.Counts.{counted};
 ghost use Rattle.outside_mem.specs.Calls.{AreUnused, after_call, after_change, fails_next};
 ghost use Rattle.outside_mem.specs.DiskHistory.{spent};
 ghost use Rattle.outside_mem.specs.DiskLaws.{read_image};
-ghost use Rattle.outside_mem.specs.Moments.{moment_at};
+ghost use Rattle.outside_mem.specs.Moments.{IsImageAt, moment_at, picked};
 
 use crate::calls::DiskCalls;
 use crate::disk_log::{DiskLog, read_from};
 use crate::failures::{counted, ended};
-use crate::moment::DiskMoment;
+use crate::moment::{DiskMoment, Pick};
 use outside::disk::Disk;
 use outside::stream::Fault;
 use std::alloc::{AllocError, Global};
@@ -76,6 +76,18 @@ impl MemDisk {
         ensures { IfOk result (λ moment. moment ≡ moment_at (disk_history self.now) number) }
     {
         self.log.moment(number)
+    }
+
+    /// What a crash at the moment of a number may have left, where there was the moment. An `Err` is
+    /// want of memory.
+    pub fn image(&self, number: u64, pick: Pick) -> Result<Option<Vec<u8>>, AllocError>
+        ensures picked { IfOk result (λ image. option_map (λ bytes. bytes.items) image ≡ option_map (picked pick) (moment_at (disk_history self.now) number)) }
+        ensures crash { IfOk result (λ image. IfSome image (λ bytes. IsImageAt (disk_history self.now) number bytes.items)) }
+    {
+        let Some(moment) = self.log.moment(number)? else {
+            return Ok(None);
+        };
+        Ok(Some(moment.into_image(pick)))
     }
 
     /// Writes a piece; its clauses tell what becomes of the call.

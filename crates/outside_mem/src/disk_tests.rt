@@ -3,7 +3,7 @@
 ghost use Rattle.std.specs.Prelude.{◌≡◌, IsTrue, OnOk};
 ghost use Rattle.outside.specs.History.{after_sync, written};
 
-use crate::{DiskMoment, Failing, MemDisk};
+use crate::{DiskMoment, Failing, MemDisk, Pick};
 use outside::disk::Disk;
 use outside::fused::Fused;
 use outside::stream::Fault;
@@ -217,6 +217,98 @@ fn each_moment_is_kept(rt: HostRuntime) -> Result<(), Failure> {
         assert!(rt; was(rt.alloc(), &disk, number, want)?, "{number}");
     }
     assert_eq!(rt; disk.clock(), 5);
+    Ok(())
+}
+
+/// Whether a place is in a range that was written since the last sync.
+fn is_written(moment: &DiskMoment, place: u64) -> bool {
+    for (at, len) in &moment.written {
+        if *at <= place && place - *at < *len {
+            return true;
+        }
+    }
+    false
+}
+
+/// The length at the last sync, or the greatest end of a write since.
+fn greatest_end(moment: &DiskMoment) -> u64 {
+    let mut greatest = moment.synced.len() as u64;
+    for (at, len) in &moment.written {
+        greatest = greatest.max(at.saturating_add(*len));
+    }
+    greatest
+}
+
+/// Whether a crash at the moment may leave these bytes, place by place.
+fn is_image(moment: &DiskMoment, bytes: &[u8]) -> bool {
+    let len = bytes.len();
+    if len < moment.synced.len() || len as u64 > greatest_end(moment) {
+        return false;
+    }
+    for (place, byte) in moment.synced.iter().enumerate() {
+        if !is_written(moment, place as u64) && bytes.get(place) != Some(byte) {
+            return false;
+        }
+    }
+    true
+}
+
+/// Whether these bytes may be left by a crash at the moment of a number; none where there was none.
+fn may_leave(disk: &MemDisk, number: u64, text: &str) -> Result<Option<bool>, AllocError> {
+    match disk.moment(number)? {
+        None => Ok(None),
+        Some(moment) => Ok(Some(is_image(&moment, text.as_bytes()))),
+    }
+}
+
+/// Whether what is picked of a moment is this, which a crash may leave; an empty text says that
+/// there was no moment.
+fn picks(disk: &MemDisk, number: u64, pick: Pick, want: &str) -> Result<bool, AllocError> {
+    match disk.image(number, pick)? {
+        None => Ok(want.is_empty()),
+        Some(image) => {
+            let left = may_leave(disk, number, want)?;
+            Ok(image.as_slice() == want.as_bytes() && left == Some(true))
+        }
+    }
+}
+
+/// Two writes and a sync.
+fn write_twice(disk: &mut MemDisk) -> Result<(), Fail> {
+    writes(disk, 1, "XY")?;
+    writes(disk, 3, "Z12")?;
+    syncs(disk)
+}
+
+#[test]
+fn each_moment_has_its_images(rt: HostRuntime) -> Result<(), Failure> {
+    let mut disk = disk_of(rt.alloc(), "abcd")?;
+    assert_eq!(rt; write_twice(&mut disk), Ok(()));
+    for (number, old, new, torn) in [
+        (0, "abcd", "abcd", "abcd"),
+        (1, "abcd", "aXYd", "a??d"),
+        (2, "abcd", "aXYZ12", "a?????"),
+        (3, "aXYZ12", "aXYZ12", "aXYZ12"),
+        (4, "", "", ""),
+    ] {
+        assert!(rt; picks(&disk, number, Pick::Old, old)?, "{number}");
+        assert!(rt; picks(&disk, number, Pick::New, new)?, "{number}");
+        assert!(rt; picks(&disk, number, Pick::Torn(b'?'), torn)?, "{number}");
+    }
+    for (number, text, left) in [
+        (0, "abc", Some(false)),
+        (0, "abcde", Some(false)),
+        (1, "aX?d", Some(true)),
+        (1, "aXYD", Some(false)),
+        (1, "aXYdZ", Some(false)),
+        (2, "a-Yd-", Some(true)),
+        (2, "?XYZ12", Some(false)),
+        (2, "aXY", Some(false)),
+        (3, "aXYZ1", Some(false)),
+        (4, "aXYZ12", None),
+    ] {
+        assert_eq!(rt; may_leave(&disk, number, text)?, left, "{number} {text}");
+    }
     Ok(())
 }
 

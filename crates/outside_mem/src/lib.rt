@@ -29,7 +29,7 @@ pub use disk::MemDisk;
 pub use disk_log::DiskCall;
 pub use failures::Failing;
 pub use inputs::MemSource;
-pub use moment::DiskMoment;
+pub use moment::{DiskMoment, Pick};
 pub use named::NamedStore;
 pub use outputs::MemSink;
 pub use readers::MemReader;

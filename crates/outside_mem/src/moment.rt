@@ -3,7 +3,7 @@
 ghost use Rattle.std.specs.Prelude.{◌≡◌, ◌≤◌, ◌∷◌, [], IfOk, OnOk, length};
 ghost use Rattle.outside.specs.History.{overwritten};
 ghost use Rattle.outside_mem.specs.DiskHistory.{all_len, behind, call_len};
-ghost use Rattle.outside_mem.specs.Moments.{moment_after, moment_after_all};
+ghost use Rattle.outside_mem.specs.Moments.{filled, filled_all, moment_after, moment_after_all, picked};
 
 use crate::disk_log::{DiskCall, overwrite};
 use std::alloc::AllocError;
@@ -21,6 +21,17 @@ pub struct DiskMoment {
     pub written: Vec<(u64, u64)>,
 }
 
+/// Which of the images that a crash at a moment may leave.
+#[derive(Debug, Clone, Copy, PartialEq, Eq)]
+pub enum Pick {
+    /// Without what was written since the last sync.
+    Old,
+    /// With all of it.
+    New,
+    /// With this byte at each place that was written since the last sync.
+    Torn(u8),
+}
+
 impl Model for DiskMoment {
     ghost use Rattle.std.specs.Prelude.{reverse};
     ghost use Rattle.outside.specs.History.{Moment};
@@ -28,6 +39,26 @@ impl Model for DiskMoment {
     ghost Value = { Moment };
 
     ghost view = { λ m. record { synced = m.synced.items; held = m.held.items; written = reverse m.written.items } };
+}
+
+/// Puts the same byte at each place of a range that there is.
+fn fill(held: &mut Vec<u8>, at: u64, len: u64, byte: u8)
+    ensures { held.new.items ≡ filled byte (at, len) held.old.items }
+{
+    let from = held.len().min(at as usize);
+    let count = (held.len() - from).min(len as usize);
+    held[from..from + count].fill(byte);
+}
+
+/// Puts the same byte at each place of these ranges.
+fn fill_all(held: Vec<u8>, ranges: &[(u64, u64)], byte: u8) -> Vec<u8>
+    ensures { result.items ≡ filled_all byte ranges.now held.items }
+{
+    let mut filled = held;
+    for (at, len) in ranges {
+        fill(&mut filled, *at, *len, byte);
+    }
+    filled
 }
 
 impl DiskMoment {
@@ -60,6 +91,17 @@ impl DiskMoment {
         self.synced = self.held.clone()?;
         self.written.clear();
         Ok(())
+    }
+
+    /// One image that a crash may leave; takes no memory.
+    pub fn into_image(self, pick: Pick) -> Vec<u8>
+        ensures { result.items ≡ picked pick self }
+    {
+        match pick {
+            Pick::Old => self.synced,
+            Pick::New => self.held,
+            Pick::Torn(byte) => fill_all(self.held, &self.written, byte),
+        }
     }
 
     /// The moment after a call, whose bytes are the first of these; answers those behind them. An

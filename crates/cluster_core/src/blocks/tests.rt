@@ -2,9 +2,9 @@
 
 use crate::node::{Finished, Node, Opened, Space};
 use fs_model::numbers::{BlockNo, FileId, TierNo};
-use outside_mem::{Failing, MemObjects, MemReader, MemWriter};
 use outside::objects::{Got, ObjectRead, ObjectWrite};
 use outside::world::Fail;
+use outside_mem::{Failing, MemObjects, MemReader, MemWriter};
 use std::alloc::{AllocError, Global};
 use std::test::Fail as Failure;
 use tier_book::room::RoomNo;

@@ -1,7 +1,9 @@
-use Rattle.std.proofs.Common.{◌≡◌, ◌+◌, ◌-◌, ◌≤◌, ℕ, List, length, take, drop, Option, Some, IfSome, sym, ◌∙◌, ap, subst, arith, length-drop}
+use Rattle.std.proofs.Common.{◌≡◌, ◌+◌, ◌-◌, ◌≤◌, ℕ, List, [], ◌∷◌, length, take, drop, Option, Some, IfSome, refl, sym, ◌∙◌, ap, subst, arith, length-drop}
+use Rattle.std.specs.List.{list_all}
 use Rattle.std.proofs.lemmas.List.{take_all}
+use Rattle.std.proofs.lemmas.List.Folds.{list_all-append}
 use Rattle.journal_entry.specs.declared.entry.Entry.{Entry}
-use Rattle.journal_entry.specs.EntryText.{IsEntryText}
+use Rattle.journal_entry.specs.EntryText.{IsEntryText, is_entry}
 use Rattle.journal_entry.specs.Reading.{entry_at}
 use Rattle.journal_disk.specs.AreaText.{with_front, walk}
 use Rattle.journal_disk.proofs.Walk.{walk_step}
@@ -19,6 +21,7 @@ loop-place-preserved c =
     let fits : c.in-Some.taken ≤ length rest = omega (arith, short.1, ap length all) in
     record {
       from = omega (arith, c.loop-place.invariant.from);
+      are = ap (list_all is_entry) c.in_ok-push.ensures.items ∙ list_all-append is_entry c.loop-place.entries.items (c.in-Some.entry ∷ []) ∙ rw (c.loop-place.invariant.are, short.0.entry) refl;
       so_far =
           ap (λ (es : List Entry). with_front es (walk 0 (place + (1 + c.in-Some.taken)) (drop (place + (1 + c.in-Some.taken)) bytes))) c.in_ok-push.ensures.items
           ∙ walk_step bytes place c.in-Some.taken c.in-Some.entry c.loop-place.entries.items c.loop-place-test.true c.if-bytes-place-eq0.false entry fits
