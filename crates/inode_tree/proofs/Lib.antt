@@ -7,3 +7,5 @@ pub mod Numbers
 pub mod Files
 pub mod Removals
 pub mod FileSet
+pub mod MovedPaths
+pub mod Relocation

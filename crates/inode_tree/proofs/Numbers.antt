@@ -23,7 +23,7 @@ eq_turned m n = grind arith
 eq_itself : (n : ℕ) → nat_eq n n ≡ true
 eq_itself n = grind arith
 
-turned : (a b : Option ℕ) → differ a b ≡ differ b a
+pub turned : (a b : Option ℕ) → differ a b ≡ differ b a
 turned None None = refl
 turned None (Some n) = refl
 turned (Some m) None = refl

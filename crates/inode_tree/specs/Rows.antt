@@ -1,11 +1,12 @@
 -- Rows and walks in the words of the file machine.
-use Rattle.std.specs.Prelude.{ℕ, Bool, true, false, cond, not, ◌&&◌, List, [], ◌∷◌, map, Option, None, Some, find, nat_eq}
+use Rattle.std.specs.Prelude.{◌≡◌, refl, ℕ, Bool, true, false, cond, not, ◌&&◌, ◌||◌, ◌++◌, length, drop, nat_le, fold, List, [], ◌∷◌, map, Option, None, Some, find, nat_eq}
 use Rattle.std.specs.List.{list_all}
 use Rattle.fs_model.specs.declared.reply.Stored.{Stored}
-use Rattle.fs_model.specs.State.{Node, File, NodeRow}
+use Rattle.fs_model.specs.State.{Node, File, NodeRow, Names}
 use Rattle.fs_model.specs.Lookups as machine
 use Rattle.fs_model.specs.Lookups.{id_is}
-use Rattle.fs_model.specs.Changes.{set_file}
+use Rattle.fs_model.specs.Words.{under, path_len}
+use Rattle.fs_model.specs.Changes.{set_file, put_node, keep_nodes, moved_rows, relocate}
 use Rattle.fs_model.specs.declared.path.Path.{Path}
 use Rattle.inode_tree.specs.declared.row.Row.{Row}
 use Rattle.inode_tree.specs.declared.row.PathRow.{PathRow}
@@ -80,6 +81,23 @@ file_row nodes id = find (λ (r : NodeRow). id_is id r.1) nodes
 -- the file with this number is changed, as the machine changes it
 abbrev pub file_changed : ℕ → (File → File) → List NodeRow → List NodeRow
 file_changed id change nodes = map (λ (r : NodeRow). (r.0, cond (id_is id r.1) (set_file change r.1) r.1)) nodes
+
+-- ---- nodes that get other paths
+
+-- no path under the first gets longer under the second than a path may be
+abbrev pub stays_short : List NodeRow → Path → Path → Bool
+stays_short nodes p q = list_all (λ (r : NodeRow). not (under r.0 p) || nat_le (path_len (q ++ drop (length p) r.0)) 4096) nodes
+
+-- each row at its place, one after the other
+abbrev pub put_all : List NodeRow → List NodeRow → List NodeRow
+put_all rows nodes = fold (λ ns (r : NodeRow). put_node r.0 r.1 ns) nodes rows
+
+-- the nodes under one path are under another instead, as the machine moves them
+abbrev pub relocated : Path → Path → List NodeRow → List NodeRow
+relocated p q nodes = put_all (moved_rows p q nodes) (keep_nodes (λ x. not (under x p)) nodes)
+
+relocated_is : (p q : Path) (N : Names) → (relocate p q N).nodes ≡ relocated p q N.nodes
+relocated_is p q N = refl
 
 -- ---- no two files have one number
 

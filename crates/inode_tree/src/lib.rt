@@ -2,6 +2,7 @@
 #![tactic(auto)]
 
 mod entry;
+mod moves;
 pub mod row;
 #[cfg(test)]
 mod tests;

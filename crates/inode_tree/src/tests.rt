@@ -296,3 +296,43 @@ fn all_nodes_are_told_in_the_order_of_their_paths(rt: HostRuntime) -> Result<(),
     }
     Ok(())
 }
+
+/// Puts a node under another path where no path gets too long, and says whether none does.
+fn relink(tree: &mut Tree, alloc: Global, text: &str, to: &str) -> Result<bool, Fail> {
+    let path = Path::read(alloc, text.as_bytes())?;
+    let to = Path::read(alloc, to.as_bytes())?;
+    if !tree.stays_short(&path, &to) {
+        return Ok(false);
+    }
+    tree.relink(alloc, &path, &to)?;
+    Ok(true)
+}
+
+#[test]
+fn a_node_moves_with_all_below_it(rt: HostRuntime) -> Result<(), Fail> {
+    for (from, to, there, gone) in [
+        ("/a", "/b", "/b/x/deep", "/a/x/deep"),
+        ("/a", "/ab/c", "/ab/c/y", "/a/y"),
+        ("/a/x", "/x", "/x/deep", "/a/x"),
+        ("/a/y", "/a!/z", "/a!/z", "/a/y"),
+        ("/a", "/!", "/!/x", "/a"),
+    ] {
+        let mut tree = sample(rt.alloc())?;
+        assert!(rt; relink(&mut tree, rt.alloc(), from, to)?, "{from} to {to}");
+        assert_eq!(rt; tree.len(), 7, "{from} to {to}");
+        assert!(rt;
+            tree.contains(&Path::read(rt.alloc(), there.as_bytes())?),
+            "{there}"
+        );
+        assert!(rt;
+            !tree.contains(&Path::read(rt.alloc(), gone.as_bytes())?),
+            "{gone}"
+        );
+        let mut order = Vec::new(rt.alloc());
+        for row in tree.rows(rt.alloc())? {
+            order.push(row.path)?;
+        }
+        assert!(rt; order.is_sorted(), "{from} to {to}");
+    }
+    Ok(())
+}

@@ -7,12 +7,13 @@ ghost use Rattle.fs_model.specs.Lookups as machine;
 ghost use Rattle.fs_model.specs.Lookups.{find_node, walk_nodes, walk_above, names_in};
 ghost use Rattle.fs_model.specs.Words.{under};
 ghost use Rattle.fs_model.specs.Changes.{put_node, keep_nodes};
-ghost use Rattle.inode_tree.specs.Rows.{node_of, directory_row, row_of_node, leads_to, IfFound, OnFound, OnBlocked, file_row, file_id, file_in_row, file_changed, path_row, row_told};
+ghost use Rattle.inode_tree.specs.Rows.{node_of, directory_row, row_of_node, leads_to, IfFound, OnFound, OnBlocked, file_row, file_id, file_in_row, file_changed, path_row, row_told, relocated, stays_short};
 
 use crate::entry::{
     Entry, Inode, children, entries_under, file_entry, inode_at, place_of, rows_of, set_file,
     walk_prefixes,
 };
+use crate::moves::{moved_entries, put_entries, stay_short};
 use crate::row::{PathRow, Row, Walk};
 use fs_model::name::Name;
 use fs_model::numbers::FileId;
@@ -205,9 +206,33 @@ impl Tree {
     /// Takes the node at the path out, with all below it; takes no memory. All other nodes stay as they are.
     pub fn remove(&mut self, path: &Path)
         ensures nodes { self.new.nodes ≡ keep_nodes (λ x. not (under x path.now)) self.old.nodes }
-        ensures room { self.old.room ≤ self.new.room }
+
+        // There is room for as many more as went.
+        ensures room { length self.new.nodes + self.new.room ≡ length self.old.nodes + self.old.room }
     {
         self.entries.retain(|entry| !entry.path.under(path));
+    }
+
+    /// Whether no path gets longer than 4,096 bytes by `relink` of these paths; takes no memory.
+    pub fn stays_short(&self, path: &Path, to: &Path) -> bool
+        ensures { result ≡ stays_short self.now.nodes path.now to.now }
+    {
+        stay_short(&self.entries, path, to)
+    }
+
+    /// Puts the node at the path, with all below it, under another path instead, as the machine does: each takes the
+    /// place of a node that is at its new path. All other nodes stay as they are. No path gets too long.
+    ///
+    /// An `Err` is want of memory, and leaves the tree as it was.
+    pub fn relink(&mut self, alloc: Global, path: &Path, to: &Path) -> Result<(), AllocError>
+        requires short { stays_short self.old.nodes path.now to.now ≡ true }
+        ensures ok { OnOk result (self.new.nodes ≡ relocated path.now to.now self.old.nodes) }
+        ensures err { OnErr result (self.new.nodes ≡ self.old.nodes) }
+    {
+        let moved = moved_entries(alloc, &self.entries, path, to)?;
+        self.remove(path);
+        put_entries(&mut self.entries, moved);
+        Ok(())
     }
 
     /// All nodes with their paths, in the order of the paths.
