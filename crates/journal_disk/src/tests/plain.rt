@@ -29,8 +29,8 @@ fn generation(area: &[u8]) -> Option<u64> {
 fn entries_of(alloc: Global, area: &[u8]) -> Result<Result<Vec<Entry>, u64>, AllocError> {
     let mut entries = Vec::new(alloc);
     let mut rest = area.get(9..).unwrap_or(b"".as_slice());
-    loop {
-        let place = (area.len() - rest.len()) as u64;
+    for _ in 0..area.len() {
+        let place = area.len().saturating_sub(rest.len()) as u64;
         let Some((gate, behind)) = rest.split_first() else {
             return Ok(Err(place));
         };
@@ -43,6 +43,7 @@ fn entries_of(alloc: Global, area: &[u8]) -> Result<Result<Vec<Entry>, u64>, All
         entries.push(entry)?;
         rest = behind.get(taken..).unwrap_or(b"".as_slice());
     }
+    Ok(Err(area.len() as u64))
 }
 
 /// What area 0 and area 1 stand for.
