@@ -3,7 +3,10 @@ use Rattle.std.proofs.Common.{◌≡◌, ℕ, ◌≤◌, Bool, false, List, Opti
 use Rattle.outside.specs.History.{History, IsImage, Images, Since, Leaves, after_sync}
 use Rattle.outside.specs.Fuse.{Fusing, IsNoLonger}
 use Rattle.outside.specs.declared.disk.Disk as disks
-use Rattle.journal_disk.specs.Opening.{IsHeaded, IsRead, Opens}
+use Rattle.journal_entry.specs.declared.entry.Entry.{Entry}
+use Rattle.journal_disk.specs.Journaling.{Journaling}
+use Rattle.journal_disk.specs.Opening.{IsBroken, IsHeaded, IsRead, IsRecovered, Opens}
+use Rattle.journal_disk.specs.declared.fault.RecoverFault.{RecoverFault}
 use Rattle.journal_disk.proofs.Moments.{Sees, started, one_more, only_synced, since_map}
 use Rattle.journal_disk.proofs.Fronts.{none_stays}
 use Rattle.journal_disk.proofs.Journals.{open_gate}
@@ -106,3 +109,27 @@ module _ {D : Type 0} (w : disks.Ghosts D) where
     head = λ told. h.head told ∙ is;
     closed = λ told. open_gate (w.history area.disk).now.held n (h.head told ∙ is);
   }
+
+  -- what is said of an opening says nothing of the fuse before it
+  opens_fused : (a b x y : Fusing D) → Opens w (record a { fuse = None }) (record b { fuse = None }) x y → Opens w a b x y
+  opens_fused a b x y o = record {
+    tells_0 = o.tells_0;
+    tells_1 = o.tells_1;
+    held_0 = o.held_0;
+    held_1 = o.held_1;
+    own_0 = o.own_0;
+    own_1 = o.own_1;
+    fuse_0 = o.fuse_0;
+    fuse_1 = o.fuse_1;
+    images = o.images;
+  }
+
+  pub recovered_fused : (a b p q : Fusing D) (limit : ℕ) (j : Journaling D) (entries : List Entry) → p ≡ record a { fuse = None } → q ≡ record b { fuse = None } → IsRecovered w p q limit j entries → IsRecovered w a b limit j entries
+  recovered_fused a b p q limit j entries first second r =
+      let here : IsRecovered w (record a { fuse = None }) (record b { fuse = None }) limit j entries = subst (λ s. IsRecovered w (record a { fuse = None }) s limit j entries) second (subst (λ s. IsRecovered w s q limit j entries) first r) in
+      record { stands = here.stands; ready = here.ready; sound = here.sound; limited = here.limited; first = here.first; areas = opens_fused a b _ _ here.areas }
+
+  pub broken_fused : (a b p q x y : Fusing D) (why : RecoverFault) → p ≡ record a { fuse = None } → q ≡ record b { fuse = None } → IsBroken w p q x y why → IsBroken w a b x y why
+  broken_fused a b p q x y why first second r =
+      let here : IsBroken w (record a { fuse = None }) (record b { fuse = None }) x y why = subst (λ s. IsBroken w (record a { fuse = None }) s x y why) second (subst (λ s. IsBroken w s q x y why) first r) in
+      record { damaged = here.damaged; failed = here.failed; areas = opens_fused a b x y here.areas }

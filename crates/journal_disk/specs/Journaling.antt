@@ -24,6 +24,13 @@ pub record Journaling (D : Type 0) : Type 0 where
   pub prepared : ℕ
   pub failed : Bool
 
+-- area 0 and area 1, each with its fuse, and by itself
+abbrev pub fused_0 : {D : Type 0} → Journaling D → Fusing D
+fused_0 j = first_of j.second j.here j.there
+
+abbrev pub fused_1 : {D : Type 0} → Journaling D → Fusing D
+fused_1 j = second_of j.second j.here j.there
+
 abbrev pub area_0 : {D : Type 0} → Journaling D → D
 area_0 j = first_of j.second j.here.disk j.there.disk
 

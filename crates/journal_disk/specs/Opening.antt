@@ -1,13 +1,13 @@
 -- What an opening of two areas finds, and what it leaves.
-use Rattle.std.specs.Prelude.{◌≡◌, ◌⊎◌, ℕ, ◌≤◌, Bool, false, List, Option, None, Ok, Err, IsTrue}
+use Rattle.std.specs.Prelude.{◌≡◌, ◌⊎◌, ℕ, ◌≤◌, Bool, true, false, List, Option, None, Ok, Err, IsTrue}
 use Rattle.outside.specs.Causes.{Rose}
 use Rattle.outside.specs.History.{IsImage, Leaves}
 use Rattle.outside.specs.Fuse.{Fusing}
 use Rattle.outside.specs.declared.disk.Disk as disks
 use Rattle.journal_entry.specs.declared.entry.Entry.{Entry}
 use Rattle.journal_disk.specs.AreaText.{area_of, head_of, is_shut}
-use Rattle.journal_disk.specs.Areas.{area_number, first_of, journal_of, second_of}
-use Rattle.journal_disk.specs.Journaling.{IsAtRest, IsReady, Journaling, current_in}
+use Rattle.journal_disk.specs.Areas.{area_number, journal_of}
+use Rattle.journal_disk.specs.Journaling.{IsAtRest, IsReady, Journaling, current_in, fused_0, fused_1}
 use Rattle.journal_disk.specs.declared.fault.RecoverFault.{RecoverFault}
 use Rattle.journal_disk.specs.declared.fault.RecoverFault.TheVariants as faults
 
@@ -47,7 +47,8 @@ pub record IsRecovered {D : Type 0} (w : disks.Ghosts D) (a b : Fusing D) (limit
   pub ready : IsReady w j entries
   pub sound : j.failed ≡ false
   pub limited : j.limit ≡ limit
-  pub areas : Opens w a b (first_of j.second j.here j.there) (second_of j.second j.here j.there)
+  pub first : j.fresh ≡ true → j.generation ≡ 0
+  pub areas : Opens w a b (fused_0 j) (fused_1 j)
 
 -- Why there is none: the current area is damaged at this place, or the own count of an area rose, or there was no memory.
 pub record IsBroken {D : Type 0} (w : disks.Ghosts D) (a b a' b' : Fusing D) (why : RecoverFault) : Type 0 where

@@ -1,12 +1,12 @@
 //! The opening of two areas that a crash may have left.
 
-ghost use Rattle.std.specs.Prelude.{◌≡◌, ℕ, ◌≤◌, ◌^◌, true, false, Some, None, IfErr, IfNone, IfOk, IfSome, IsErrOf, OnOk, IsTrue};
+ghost use Rattle.std.specs.Prelude.{◌≡◌, ℕ, ◌≤◌, ◌^◌, [], true, false, Some, None, IfErr, IfNone, IfOk, IfSome, IsErrOf, OnErr, OnOk, IsTrue};
 ghost use Rattle.std.specs.List.{list_all};
 ghost use Rattle.std.specs.Vec.{vec_capacity};
 ghost use Rattle.outside.specs.Causes.{Rose};
 ghost use Rattle.journal_entry.specs.EntryText.{is_entry};
 ghost use Rattle.journal_disk.specs.Areas.{area_number, chosen, first_of, second_of};
-ghost use Rattle.journal_disk.specs.Journaling.{IsAtRest, IsReady};
+ghost use Rattle.journal_disk.specs.Journaling.{IsAtRest, IsReady, fused_0, fused_1};
 ghost use Rattle.journal_disk.specs.Opening.{IsBroken, IsHeaded, IsOpened, IsRead, IsRecovered, IsUnread, Opens, OwnRose};
 ghost use Rattle.journal_disk.specs.declared.fault.RecoverFault.TheVariants.{Damaged, Failed};
 
@@ -17,6 +17,7 @@ use journal_entry::entry::Entries;
 use outside::disk::Disk;
 use outside::fused::Fused;
 use std::alloc::{AllocError, Global};
+use std::mem::swap;
 
 /// A journal, and the entries that it stands for.
 #[derive(Debug, Drop)]
@@ -38,13 +39,6 @@ pub struct Broken<D: Disk> {
     pub a: Fused<D>,
     /// Area 1.
     pub b: Fused<D>,
-}
-
-// Why the current area was not read, and both areas back.
-struct Unread<D: Disk> {
-    why: RecoverFault,
-    here: Fused<D>,
-    there: Fused<D>,
 }
 
 /// Clears the fuse of both areas, and lets all that was written survive a crash: area 0, and then
@@ -100,60 +94,6 @@ fn number(second: bool) -> u32
     if second { 1 } else { 0 }
 }
 
-// Reads the current area, `here`, which is open under this generation; the other one is beside it.
-fn read_current<D: Disk>(
-    alloc: Global,
-    text: Vec<u8>,
-    limit: u64,
-    second: bool,
-    here: Fused<D>,
-    there: Fused<D>,
-    generation: u64,
-    there_head: Head,
-) -> Result<Recovered<D>, Unread<D>>
-    requires limit { limit ≤ 2 ^ 30 }
-    requires text { 8256 ≤ vec_capacity text }
-    requires fuses { (here.fuse ≡ None) × (there.fuse ≡ None) }
-    requires here { IsHeaded D.Disk here (Some generation) false }
-    requires there { IsHeaded D.Disk there there_head.generation there_head.shut }
-    requires current { chosen second (Some generation) there_head.generation ≡ Some second }
-
-    ensures ok { IfOk result (λ r. IsOpened D.Disk second here there generation limit r.journal r.entries) }
-    ensures fresh { IfOk result (λ r. r.fresh ≡ false) }
-    ensures entries { IfOk result (λ r. list_all is_entry r.entries ≡ true) }
-    ensures unread { IfErr result (λ u. IsUnread D.Disk second here there u.here u.there u.why) }
-{
-    let mut here = here;
-    let read = match read_all(alloc, &mut here) {
-        Ok(bytes) => read_area(alloc, number(second), &bytes),
-        Err(why) => Err(why),
-    };
-    match read {
-        Ok((entries, gate)) => {
-            let journal = Journal {
-                here,
-                there,
-                second,
-                here_shut: false,
-                there_shut: there_head.shut,
-                fresh: false,
-                generation,
-                gate,
-                limit,
-                prepared: 0,
-                failed: false,
-                text,
-            };
-            Ok(Recovered {
-                journal,
-                entries,
-                fresh: false,
-            })
-        }
-        Err(why) => Err(Unread { why, here, there }),
-    }
-}
-
 // Room for the text of an entry.
 fn text_room(alloc: Global) -> Result<Vec<u8>, AllocError>
     ensures { IfOk result (λ text. 8256 ≤ vec_capacity text) }
@@ -163,50 +103,170 @@ fn text_room(alloc: Global) -> Result<Vec<u8>, AllocError>
     Ok(text)
 }
 
-// A journal over areas of which none is open.
-fn fresh<D: Disk>(
-    alloc: Global,
-    text: Vec<u8>,
-    limit: u64,
-    a: Fused<D>,
-    b: Fused<D>,
-    shut: (bool, bool),
-) -> Recovered<D>
+// The area with no fuse.
+fn unfused<D: Disk>(area: Fused<D>) -> Fused<D>
+    ensures { result ≡ record area { fuse = None } }
+{
+    let mut area = area;
+    area.set_fuse(None);
+    area
+}
+
+// A journal over these areas that takes nothing yet.
+fn closed<D: Disk>(text: Vec<u8>, limit: u64, a: Fused<D>, b: Fused<D>) -> Journal<D>
     requires limit { limit ≤ 2 ^ 30 }
     requires text { 8256 ≤ vec_capacity text }
     requires fuses { (a.fuse ≡ None) × (b.fuse ≡ None) }
-    requires first { IsHeaded D.Disk a None shut.0 }
-    requires second { IsHeaded D.Disk b None shut.1 }
 
-    ensures fresh { (result.fresh ≡ true) × (result.journal.fresh ≡ true) }
-    ensures areas { (result.journal.there ≡ a) × (result.journal.here ≡ b) × (result.journal.second ≡ true) }
-    ensures limited { result.journal.limit ≡ limit }
-    ensures sound { result.journal.failed ≡ false }
-    ensures ready { IsReady D.Disk result.journal result.entries }
-    ensures entries { list_all is_entry result.entries ≡ true }
+    ensures first { fused_0 result ≡ a }
+    ensures second { fused_1 result ≡ b }
+    ensures limited { result.limit ≡ limit }
 {
-    let journal = Journal {
-        here: b,
-        there: a,
-        second: true,
-        here_shut: shut.1,
-        there_shut: shut.0,
-        fresh: true,
+    Journal {
+        here: a,
+        there: b,
+        second: false,
+        here_shut: false,
+        there_shut: false,
+        fresh: false,
         generation: 0,
         gate: 0,
         limit,
         prepared: 0,
-        failed: false,
+        failed: true,
         text,
-    };
-    Recovered {
-        journal,
-        entries: Entries::from_vec(Vec::new(alloc)),
-        fresh: true,
     }
 }
 
 impl<D: Disk> Journal<D> {
+    // Takes nothing more, and takes area 0 for the current one.
+    fn line_up(&mut self)
+        ensures { self.new ≡ record self.old {
+          here = fused_0 self.old;
+          there = fused_1 self.old;
+          second = false;
+          fresh = false;
+          prepared = 0;
+          failed = true;
+        } }
+    {
+        if self.second {
+            swap(&mut self.here, &mut self.there);
+        }
+        self.second = false;
+        self.fresh = false;
+        self.prepared = 0;
+        self.failed = true;
+    }
+
+    // Takes area 1 for the current one.
+    fn turn(&mut self)
+        requires failed { self.old.failed ≡ true }
+        requires unprepared { self.old.prepared ≡ 0 }
+        requires some { self.old.fresh ≡ false }
+
+        ensures { self.new ≡ record self.old { here = self.old.there; there = self.old.here; second = true } }
+    {
+        swap(&mut self.here, &mut self.there);
+        self.second = true;
+    }
+
+    // Stands for no entries, as neither area is open. Both were settled, and the other one is area 0.
+    fn begin(&mut self, here_shut: bool, there_shut: bool)
+        requires turned { self.old.second ≡ true }
+        requires unprepared { self.old.prepared ≡ 0 }
+        requires here { IsHeaded D.Disk self.old.here None here_shut }
+        requires there { IsHeaded D.Disk self.old.there None there_shut }
+
+        ensures begun { self.new ≡ record self.old {
+          here_shut = here_shut;
+          there_shut = there_shut;
+          fresh = true;
+          generation = 0;
+          gate = 0;
+          failed = false;
+        } }
+        ensures ready { IsReady D.Disk self.new [] }
+    {
+        self.here_shut = here_shut;
+        self.there_shut = there_shut;
+        self.fresh = true;
+        self.generation = 0;
+        self.gate = 0;
+        self.failed = false;
+    }
+
+    // Reads the current area, which is open under this generation; the other one has this head.
+    fn read_current(
+        &mut self,
+        alloc: Global,
+        generation: u64,
+        other: Head,
+    ) -> Result<Entries, RecoverFault>
+        requires failed { self.old.failed ≡ true }
+        requires unprepared { self.old.prepared ≡ 0 }
+        requires some { self.old.fresh ≡ false }
+        requires fuses { (self.old.here.fuse ≡ None) × (self.old.there.fuse ≡ None) }
+        requires here { IsHeaded D.Disk self.old.here (Some generation) false }
+        requires there { IsHeaded D.Disk self.old.there other.generation other.shut }
+        requires current { chosen self.old.second (Some generation) other.generation ≡ Some self.old.second }
+
+        ensures ok { IfOk result (λ entries. IsOpened D.Disk self.old.second self.old.here self.old.there generation self.old.limit self.new entries) }
+        ensures entries { IfOk result (λ entries. list_all is_entry entries ≡ true) }
+        ensures unread { IfErr result (λ why. IsUnread D.Disk self.old.second self.old.here self.old.there self.new.here self.new.there why) }
+        ensures stopped { OnErr result ((self.new.failed ≡ true) × (self.new.second ≡ self.old.second)) }
+        ensures limit { self.new.limit ≡ self.old.limit }
+    {
+        let bytes = read_all(alloc, &mut self.here)?;
+        let (entries, gate) = read_area(alloc, number(self.second), &bytes)?;
+        self.here_shut = false;
+        self.there_shut = other.shut;
+        self.generation = generation;
+        self.gate = gate;
+        self.failed = false;
+        Ok(entries)
+    }
+
+    /// Takes nothing more until its areas are opened anew; no call of one is made.
+    pub fn stop(&mut self)
+        ensures { self.new ≡ record self.old { prepared = 0; failed = true } }
+    {
+        self.prepared = 0;
+        self.failed = true;
+    }
+
+    /// Opens its areas anew, as `recover` does, and answers the entries that they stand for.
+    ///
+    /// After an error it takes nothing, whatever it took before, until a further call succeeds.
+    pub fn reopen(&mut self, alloc: Global) -> Result<Entries, RecoverFault>
+        ensures recovered { IfOk result (λ entries. IsRecovered D.Disk (fused_0 self.old) (fused_1 self.old) self.old.limit self.new entries) }
+        ensures entries { IfOk result (λ entries. list_all is_entry entries ≡ true) }
+        ensures broken { IfErr result (λ why. IsBroken D.Disk (fused_0 self.old) (fused_1 self.old) (fused_0 self.new) (fused_1 self.new) why) }
+        ensures stopped { OnErr result (self.new.failed ≡ true) }
+        ensures limit { self.new.limit ≡ self.old.limit }
+    {
+        self.line_up();
+        let (first, second) = read_heads(&mut self.here, &mut self.there)?;
+        match current(first.generation, second.generation) {
+            None => {
+                self.turn();
+                self.begin(second.shut, first.shut);
+                Ok(Entries::from_vec(Vec::new(alloc)))
+            }
+            Some((false, generation)) => match self.read_current(alloc, generation, second) {
+                Ok(entries) => Ok(entries),
+                Err(why) => Err(why),
+            },
+            Some((true, generation)) => {
+                self.turn();
+                match self.read_current(alloc, generation, first) {
+                    Ok(entries) => Ok(entries),
+                    Err(why) => Err(why),
+                }
+            }
+        }
+    }
+
     /// Opens two areas that a crash may have left: clears their fuse, syncs area 0 and area 1, reads
     /// both heads, and reads the current area. It is the open one with the greater generation, area 0
     /// where they are equal; where neither is open, the journal is fresh.
@@ -229,37 +289,25 @@ impl<D: Disk> Journal<D> {
         ensures entries { IfOk result (λ r. list_all is_entry r.entries ≡ true) }
         ensures broken { IfErr result (λ e. IsBroken D.Disk a b e.a e.b e.why) }
     {
-        let mut a = a;
-        let mut b = b;
-        let (first, second) = match read_heads(&mut a, &mut b) {
-            Ok(heads) => heads,
-            Err(why) => return Err(Broken { why, a, b }),
-        };
+        let a = unfused(a);
+        let b = unfused(b);
         let Ok(text) = text_room(alloc) else {
             let why = RecoverFault::Memory;
             return Err(Broken { why, a, b });
         };
-        match current(first.generation, second.generation) {
-            None => Ok(fresh(alloc, text, limit, a, b, (first.shut, second.shut))),
-            Some((false, generation)) => {
-                match read_current(alloc, text, limit, false, a, b, generation, second) {
-                    Ok(recovered) => Ok(recovered),
-                    Err(Unread { why, here, there }) => Err(Broken {
-                        why,
-                        a: here,
-                        b: there,
-                    }),
-                }
+        let mut journal = closed(text, limit, a, b);
+        match journal.reopen(alloc) {
+            Ok(entries) => {
+                let fresh = journal.fresh;
+                Ok(Recovered {
+                    journal,
+                    entries,
+                    fresh,
+                })
             }
-            Some((true, generation)) => {
-                match read_current(alloc, text, limit, true, b, a, generation, first) {
-                    Ok(recovered) => Ok(recovered),
-                    Err(Unread { why, here, there }) => Err(Broken {
-                        why,
-                        a: there,
-                        b: here,
-                    }),
-                }
+            Err(why) => {
+                let (a, b) = journal.into_areas();
+                Err(Broken { why, a, b })
             }
         }
     }
