@@ -1,1 +1,2 @@
 pub mod Mastering
+pub mod Recovery

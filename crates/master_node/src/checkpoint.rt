@@ -3,9 +3,9 @@
 ghost use Rattle.std.specs.Prelude.{◌≡◌, Err, IsErrOf, OnErr, OnOk};
 ghost use Rattle.outside.specs.Fuse.{IsBelow, burnt};
 ghost use Rattle.journal_entry.specs.Meaning.{checkpoint_entries};
-ghost use Rattle.journal_disk.specs.Journaling.{BothTell, GoesOn, HadCause, HasCheckpoint, HasFailed, IsFull, LeavesAreas, StaysAs, checkpoint_calls};
+ghost use Rattle.journal_disk.specs.Journaling.{BothTell, GoesOn, HadCause, HasCheckpoint, HasFailed, IsFull, StaysAs, checkpoint_calls};
 ghost use Rattle.journal_disk.specs.declared.fault.AppendFault.TheVariants.{Failed, Full, Memory};
-ghost use Rattle.master_node.specs.Mastering.{IsUp, StandsFor, names_of};
+ghost use Rattle.master_node.specs.Mastering.{IsKept, IsUp, LeavesStanding, names_of, standing_of, renewed};
 
 use crate::master::Master;
 use journal_disk::AppendFault;
@@ -25,7 +25,8 @@ impl<D: Disk> Master<D> {
 
         ensures kept { self.new.kept ≡ self.old.kept }
         ensures renewed { OnOk result (HasCheckpoint self.old.journal self.new.journal (checkpoint_entries (names_of self.old))) }
-        ensures any_moment { BothTell D.Disk self.old.journal → LeavesAreas D.Disk self.old.journal self.new.journal (StandsFor (names_of self.old)) }
+        ensures any_moment { BothTell D.Disk self.old.journal → LeavesStanding D.Disk self.old self.new (renewed (standing_of self.old)) }
+        ensures later { OnOk result (IsKept D.Disk self.new) }
         ensures goes_on { GoesOn D.Disk self.old.journal self.new.journal }
         ensures burnt { OnOk result (self.new.journal.here.fuse ≡ burnt (checkpoint_calls (checkpoint_entries (names_of self.old))) self.old.journal.here.fuse) }
         ensures enough { OnOk result (IsBelow self.old.journal.here.fuse (checkpoint_calls (checkpoint_entries (names_of self.old))) → ⊥) }

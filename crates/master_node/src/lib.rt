@@ -3,5 +3,7 @@
 
 mod checkpoint;
 mod master;
+mod recovery;
 
 pub use master::Master;
+pub use recovery::MasterBroken;

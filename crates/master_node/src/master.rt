@@ -3,11 +3,11 @@
 ghost use Rattle.std.specs.Prelude.{◌≡◌, ◌+◌, ◌<◌, ◌≤◌, List, length, true, Err, IsErrOf, OnErr, OnOk};
 ghost use Rattle.outside.specs.Fuse.{IsBelow, burnt};
 ghost use Rattle.journal_entry.specs.EntryText.{entry_text, fits};
-ghost use Rattle.journal_disk.specs.Journaling.{BothTell, GoesOn, HadCause, HasAppended, HasFailed, IsPrepared, StaysAs};
+ghost use Rattle.journal_disk.specs.Journaling.{BothTell, GoesOn, HadCause, HasAppended, HasFailed, IsPrepared, LeavesAreas, StaysAs};
 ghost use Rattle.journal_disk.specs.declared.fault.AppendFault.TheVariants.{Failed, Full, Memory};
 ghost use Rattle.master_state.specs.Effect.{taken};
 ghost use Rattle.master_state.specs.View.{Need, need_of};
-ghost use Rattle.master_node.specs.Mastering.{IsUp, LeavesNames, names_of};
+ghost use Rattle.master_node.specs.Mastering.{IsKept, IsUp, LeavesStanding, StandsFor, names_of, standing_of, entered};
 
 use journal_disk::{AppendFault, Journal};
 use journal_entry::entry::Entry;
@@ -67,9 +67,11 @@ impl<D: Disk> Master<D> {
 
         ensures ready { OnOk result ((self.new.kept.ready ≡ need_of entry.now) × IsPrepared self.new.journal entry.now) }
         ensures dropped { OnErr result (self.new.kept.ready ≡ Need.Nothing) }
+        ensures within { OnOk result (self.old.journal.gate + 2 + length (entry_text entry.now) ≤ self.old.journal.limit) }
         ensures full { IsErrOf result Full → self.old.journal.limit < self.old.journal.gate + 2 + length (entry_text entry.now) }
         ensures failed { IsErrOf result Failed → ⊥ }
         ensures stays { StaysAs D.Disk self.old.journal self.new.journal }
+        ensures any_moment { BothTell D.Disk self.old.journal → LeavesAreas D.Disk self.old.journal self.new.journal (StandsFor (standing_of self.old)) }
         ensures names { names_of self.new ≡ names_of self.old }
     {
         if self.names.reserve_for(entry).is_err() {
@@ -105,7 +107,8 @@ impl<D: Disk> Master<D> {
         ensures moved { OnOk result (HasAppended self.old.journal self.new.journal entry.now) }
         ensures kept { OnErr result (names_of self.new ≡ names_of self.old) }
         ensures ready { self.new.kept.ready ≡ Need.Nothing }
-        ensures any_moment { BothTell D.Disk self.old.journal → LeavesNames D.Disk self.old self.new (taken entry.now (names_of self.old)) }
+        ensures any_moment { BothTell D.Disk self.old.journal → LeavesStanding D.Disk self.old self.new (entered entry.now (standing_of self.old)) }
+        ensures later { OnOk result (IsKept D.Disk self.new) }
         ensures goes_on { GoesOn D.Disk self.old.journal self.new.journal }
         ensures burnt { OnOk result (self.new.journal.here.fuse ≡ burnt 4 self.old.journal.here.fuse) }
         ensures enough { OnOk result (IsBelow self.old.journal.here.fuse 4 → ⊥) }
@@ -125,6 +128,37 @@ impl<D: Disk> Master<D> {
                 self.names.drop_for();
                 Err(fault)
             }
+        }
+    }
+    /// Makes ready what an entry needs, journals it and then does what it stands for, in four calls of an area.
+    ///
+    /// It is `prepare` and then `go_on`: all that takes memory comes before the first of these calls. At every
+    /// moment, each pair of images of both areas stands for the names so far, or for those with the change; after
+    /// `Ok`, and from then on, for those with it. After an error the names are as they were. `Full` exactly where
+    /// the area would be longer than its limit, and `Memory` where there was no memory for it: neither changes an
+    /// area. `Failed` only where the own count of an area rose in this call or the fuse was smaller than four calls:
+    /// the change is then in doubt and the master is stopped.
+    pub fn names_event(&mut self, entry: &Entry) -> Result<(), AppendFault>
+        requires fits { fits entry.now ≡ true }
+        requires up { IsUp self.old }
+
+        ensures applied { OnOk result (names_of self.new ≡ taken entry.now (names_of self.old)) }
+        ensures moved { OnOk result (HasAppended self.old.journal self.new.journal entry.now) }
+        ensures kept { OnErr result (names_of self.new ≡ names_of self.old) }
+        ensures any_moment { BothTell D.Disk self.old.journal → LeavesStanding D.Disk self.old self.new (entered entry.now (standing_of self.old)) }
+        ensures later { OnOk result (IsKept D.Disk self.new) }
+        ensures goes_on { GoesOn D.Disk self.old.journal self.new.journal }
+        ensures burnt { OnOk result (self.new.journal.here.fuse ≡ burnt 4 self.old.journal.here.fuse) }
+        ensures enough { OnOk result (IsBelow self.old.journal.here.fuse 4 → ⊥) }
+        ensures failed { IsErrOf result Failed → HadCause 4 D.Disk self.old.journal self.new.journal × HasFailed self.old.journal self.new.journal }
+        ensures full { IsErrOf result Full → self.old.journal.limit < self.old.journal.gate + 2 + length (entry_text entry.now) }
+        ensures full_stays { IsErrOf result Full → StaysAs D.Disk self.old.journal self.new.journal }
+        ensures memory_stays { IsErrOf result Memory → StaysAs D.Disk self.old.journal self.new.journal }
+    {
+        self.prepare(entry)?;
+        match self.go_on(entry) {
+            Ok(()) => Ok(()),
+            Err(fault) => Err(fault),
         }
     }
 }
