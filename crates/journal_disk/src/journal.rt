@@ -1,6 +1,6 @@
 //! A journal whose areas were read: what it stands for, and one entry more.
 
-ghost use Rattle.std.specs.Prelude.{◌≡◌, ℕ, ◌+◌, ◌<◌, ◌≤◌, ◌++◌, ◌∷◌, [], List, length, true, false, Err, IfNone, IfSome, IsErrOf, IsOk, OnErr, OnOk, vec_len};
+ghost use Rattle.std.specs.Prelude.{◌≡◌, ℕ, ◌+◌, ◌<◌, ◌≤◌, ◌^◌, ◌++◌, ◌∷◌, [], List, length, nat_lt, true, false, Err, IfNone, IfSome, IsErrOf, IsOk, OnErr, OnOk, vec_len};
 ghost use Rattle.std.specs.Vec.{vec_capacity};
 ghost use Rattle.outside.specs.Fuse.{IsBelow, burnt};
 ghost use Rattle.journal_entry.specs.declared.entry.Entry.{Entry};
@@ -108,6 +108,14 @@ impl<D: Disk> Journal<D> {
         ensures { result ≡ self.now.generation }
     {
         self.generation
+    }
+
+    /// Whether an append of an entry whose text has so many bytes would make the current area longer than its limit.
+    pub fn lacks_room(&self, len: u64) -> bool
+        requires { len ≤ 2 ^ 32 }
+        ensures { result ≡ nat_lt self.now.limit (self.now.gate + 2 + len) }
+    {
+        self.gate + 2 + len > self.limit
     }
 
     /// How many calls of the areas still pass; `None` where no fuse is set.

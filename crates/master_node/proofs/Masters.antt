@@ -45,8 +45,11 @@ module _ {D : Type 0} (w : disks.Ghosts D) (j : Journaling D) (es : List Entry) 
   appended new e leaves = leaves_map _ _ _ _ (IsBeforeOrAfter (current_in j es) (with_entry j es e)) (λ a b. StandsFor here a b ⊎ StandsFor (entered e here) a b)
       (λ a b. ⊎_elim
       (λ before. inl (stands_here a b before))
-      (λ after. inr (record { second = j.second; generation = j.generation; entries = es ++ e ∷ []; gate = next_gate j.gate e }, after,
-      ap (λ (n : Names). let s : Standing = record { names = n; gate = next_gate j.gate e; generation = j.generation } in s) (meaning_more N es e is)))) leaves
+      (λ after. inr (
+        record { second = j.second; generation = j.generation; entries = es ++ e ∷ []; gate = next_gate j.gate e },
+        after,
+        ap (λ (n : Names). let s : Standing = record { names = n; gate = next_gate j.gate e; generation = j.generation } in s) (meaning_more N es e is),
+      ))) leaves
 
   -- a checkpoint leaves that, or that anew
   pub checkpointed : (new : Journaling D) (entries : List Entry) → entries ≡ checkpoint_entries N → meaning entries ≡ N → LeavesAreas w j new (IsBeforeOrAfter (current_in j es) (with_checkpoint j entries))
@@ -54,9 +57,12 @@ module _ {D : Type 0} (w : disks.Ghosts D) (j : Journaling D) (es : List Entry) 
   checkpointed new entries made means leaves = leaves_map _ _ _ _ (IsBeforeOrAfter (current_in j es) (with_checkpoint j entries)) (λ a b. StandsFor here a b ⊎ StandsFor (renewed here) a b)
       (λ a b. ⊎_elim
       (λ before. inl (stands_here a b before))
-      (λ after. inr (record { second = not j.second; generation = j.generation + 1; entries = entries; gate = gate_behind entries }, after,
-      ap (λ (n : Names). let s : Standing = record { names = n; gate = gate_behind entries; generation = j.generation + 1 } in s) means
-      ∙ ap (λ (l : List Entry). let s : Standing = record { names = N; gate = gate_behind l; generation = j.generation + 1 } in s) made))) leaves
+      (λ after. inr (
+        record { second = not j.second; generation = j.generation + 1; entries = entries; gate = gate_behind entries },
+        after,
+        ap (λ (n : Names). let s : Standing = record { names = n; gate = gate_behind entries; generation = j.generation + 1 } in s) means
+            ∙ ap (λ (l : List Entry). let s : Standing = record { names = N; gate = gate_behind l; generation = j.generation + 1 } in s) made,
+      ))) leaves
 
   -- no call of an area leaves that too
   pub still : IsReady w j es → BothTell w j → LeavesAreas w j j (StandsFor here)

@@ -20,13 +20,13 @@ pub record Mastering (D : Type 0) : Type 0 where
 abbrev pub names_of : {D : Type 0} → Mastering D → Names
 names_of m = m.kept.names
 
--- the master is up: an area is current, and no call of one has failed
+-- the master is up: no call of an area has failed
 abbrev pub IsUp : {D : Type 0} → Mastering D → Type 0
-IsUp m = (m.journal.failed ≡ false) × (m.journal.fresh ≡ false)
+IsUp m = m.journal.failed ≡ false
 
--- what holds of each master: while it is up, the journal stands for entries that mean its names
+-- what holds of each master: while it is up, an area is current, and the journal stands for entries that mean its names
 abbrev pub Stands : {D : Type 0} → disks.Ghosts D → Mastering D → Type 0
-Stands w m = IsUp m → (entries : List Entry) × IsReady w m.journal entries × (meaning entries ≡ names_of m)
+Stands w m = IsUp m → (m.journal.fresh ≡ false) × (entries : List Entry) × IsReady w m.journal entries × (meaning entries ≡ names_of m)
 
 -- ---- what areas stand for
 -- names that an area keeps, the place of its closed gate, and its generation

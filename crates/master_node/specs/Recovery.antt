@@ -1,5 +1,5 @@
 -- What an opening of both areas makes of a master.
-use Rattle.std.specs.Prelude.{◌≡◌, ◌⊎◌, ℕ, ◌+◌, ◌<◌, ◌≤◌, Bool, false, true, ◌&&◌, [], List, is_some, nat_le, None, Ok, Err}
+use Rattle.std.specs.Prelude.{◌≡◌, ◌⊎◌, ℕ, ◌+◌, ◌<◌, ◌≤◌, Bool, false, true, ◌&&◌, [], List, is_some, nat_le, None, Some, Ok, Err}
 use Rattle.std.specs.List.{list_all}
 use Rattle.outside.specs.History.{Leaves}
 use Rattle.outside.specs.Fuse.{Fusing}
@@ -55,8 +55,6 @@ pub record Begins {D : Type 0} (w : disks.Ghosts D) (S : Setup) (a b a' b' : Fus
   pub tells_1 : w.tells b'.disk ≡ w.tells opened_1.disk
   pub own_0 : w.faults opened_0.disk ≤ w.faults a'.disk
   pub own_1 : w.faults opened_1.disk ≤ w.faults b'.disk
-  pub fuse_0 : a'.fuse ≡ None
-  pub fuse_1 : b'.fuse ≡ None
   pub begun : Tell w a b → Leaves (w.history opened_0.disk) (w.history a'.disk) (w.history opened_1.disk) (w.history b'.disk) (IsFreshOr (first_standing S))
 
 -- the areas stood for what the master does
@@ -81,6 +79,7 @@ stop_of faults.Memory = Stop.Memory
 pub record IsOver {D : Type 0} (w : disks.Ghosts D) (S : Setup) (a b : Fusing D) (m : Mastering D) : Type 0 where
   pub up : IsUp m
   pub limited : m.journal.limit ≡ S.area
+  pub unfused : m.journal.here.fuse ≡ None
   pub served : is_served S (names_of m) ≡ true
   pub from : IsAgain w a b m ⊎ IsFirst w S a b m
 

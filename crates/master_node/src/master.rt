@@ -1,6 +1,6 @@
 //! Names that a journal keeps: each change is appended before it is applied.
 
-ghost use Rattle.std.specs.Prelude.{◌≡◌, ◌+◌, ◌<◌, ◌≤◌, List, length, true, Err, IsErrOf, OnErr, OnOk};
+ghost use Rattle.std.specs.Prelude.{◌≡◌, ◌+◌, ◌<◌, ◌≤◌, ◌^◌, List, length, nat_lt, true, Err, IsErrOf, OnErr, OnOk};
 ghost use Rattle.outside.specs.Fuse.{IsBelow, burnt};
 ghost use Rattle.journal_entry.specs.EntryText.{entry_text, fits};
 ghost use Rattle.journal_disk.specs.Journaling.{BothTell, GoesOn, HadCause, HasAppended, HasFailed, IsPrepared, LeavesAreas, StaysAs};
@@ -48,6 +48,14 @@ impl<D: Disk> Master<D> {
         ensures { result.now ≡ self.now.kept }
     {
         &self.names
+    }
+
+    /// Whether an entry whose text has so many bytes finds no room in the journal.
+    pub fn lacks_room(&self, len: u64) -> bool
+        requires { len ≤ 2 ^ 32 }
+        ensures { result ≡ nat_lt self.now.journal.limit (self.now.journal.gate + 2 + len) }
+    {
+        self.journal.lacks_room(len)
     }
 
     /// Sets the fuse of both areas to so many calls together, or clears it.

@@ -71,11 +71,7 @@ fn first_names(alloc: Global, setup: &Setup) -> Result<(Names, Entries), AllocEr
 }
 
 // Makes the first checkpoint, over a journal of which no area is current.
-fn begin<D: Disk>(
-    alloc: Global,
-    setup: &Setup,
-    journal: &mut Journal<D>,
-) -> Result<Names, Stop>
+fn begin<D: Disk>(alloc: Global, setup: &Setup, journal: &mut Journal<D>) -> Result<Names, Stop>
     requires setup { is_setup setup.now ≡ true }
     requires sound { journal.old.failed ≡ false }
     requires fresh { journal.old.fresh ≡ true }
