@@ -110,6 +110,13 @@ impl<D: Disk> Journal<D> {
         self.generation
     }
 
+    /// The most bytes of an area.
+    pub fn limit(&self) -> u64
+        ensures { result ≡ self.now.limit }
+    {
+        self.limit
+    }
+
     /// Whether an append of an entry whose text has so many bytes would make the current area longer than its limit.
     pub fn lacks_room(&self, len: u64) -> bool
         requires { len ≤ 2 ^ 32 }

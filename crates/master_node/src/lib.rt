@@ -4,6 +4,8 @@
 mod checkpoint;
 mod master;
 mod recovery;
+#[cfg(test)]
+mod tests;
 
 pub use master::Master;
 pub use recovery::MasterBroken;

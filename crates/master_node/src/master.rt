@@ -50,6 +50,13 @@ impl<D: Disk> Master<D> {
         &self.names
     }
 
+    /// The most bytes of an area.
+    pub fn limit(&self) -> u64
+        ensures { result ≡ self.now.journal.limit }
+    {
+        self.journal.limit()
+    }
+
     /// Whether an entry whose text has so many bytes finds no room in the journal.
     pub fn lacks_room(&self, len: u64) -> bool
         requires { len ≤ 2 ^ 32 }
