@@ -37,9 +37,9 @@ module _ {S : Type 0} (told : S → Option Contents) (old new : Option Shelf) wh
   tiers_tell items (worker ∷ workers) [] name h k e = absurd h
   tiers_tell items (worker ∷ workers) (own ∷ tiers) name h k e = elim (either_true (is_among worker name) (is_among (tier_names workers) name) (sym (among-append worker (tier_names workers) name) ∙ e)) [ inl p ↦ zip_tells worker (items own) name h.0 k.0 p | inr p ↦ tiers_tell items workers tiers name h.1 k.1 p ]
 
-  each_tells : (names : NameLists) (media : Media S) (name : List ℕ) → EachNamed (TellsHeld told old) names media → EachNamed (TellsHeld told new) names media → is_among (all_names names) name ≡ true → IsSame (under old name) (under new name)
+  each_tells : {D : Type 0} (names : NameLists) (media : Media D S) (name : List ℕ) → EachNamed (TellsHeld told old) names media → EachNamed (TellsHeld told new) names media → is_among (all_names names) name ≡ true → IsSame (under old name) (under new name)
   each_tells names media name h k e = elim (either_true (is_among names.stores name) (is_among (tier_names names.tiers) name) (sym (among-append names.stores (tier_names names.tiers) name) ∙ e)) [ inl p ↦ zip_tells names.stores media.stores.items name h.stores k.stores p | inr p ↦ tiers_tell (λ own. own.items) names.tiers media.tiers.items name h.tiers k.tiers p ]
 
 -- a world that lends media and gets them back as they are holds what it held
-pub same_returned : {S : Type 0} (told : S → Option Contents) (old mid new : Option Shelf) (names : NameLists) (media : Media S) → EachNamed (TellsHeld told old) names media → EachNamed (TellsHeld told new) names media → KeepsBut (all_names names) old mid → KeepsBut (all_names names) mid new → KeepsBut [] old new
+pub same_returned : {D S : Type 0} (told : S → Option Contents) (old mid new : Option Shelf) (names : NameLists) (media : Media D S) → EachNamed (TellsHeld told old) names media → EachNamed (TellsHeld told new) names media → KeepsBut (all_names names) old mid → KeepsBut (all_names names) mid new → KeepsBut [] old new
 same_returned told old mid new names media lent back first next = λ name _. elim (true_or_false (is_among (all_names names) name)) [ inl e ↦ each_tells told old new names media name lent back e | inr e ↦ same_then (under old name) (under mid name) (under new name) (first name e) (next name e) ]

@@ -8,6 +8,7 @@ ghost use Rattle.outside.specs.Causes.{Rose};
 ghost use Rattle.outside.specs.Inputs.{is_missed, Opens};
 ghost use Rattle.outside.specs.Shelf.{EachNamed, HasShape, KeepsBut, LacksEach, NameLists, Shelf, TellsHeld, all_names, are_distinct, name_lists};
 
+use crate::disk::Disk;
 use crate::media::{Media, MediaNames};
 use crate::objects::Objects;
 use crate::stream::{Sink, Source};
@@ -37,6 +38,8 @@ pub trait World {
     type In: Source;
 
     type Out: Sink;
+
+    type Area: Disk;
 
     type Store: Objects;
 
@@ -114,7 +117,7 @@ pub trait World {
     /// `Failed` comes only where `faults` rose in this call. After an error nothing is lent, and
     /// what is held is as it was. In any case the inputs, what is held of inputs, and the output
     /// stay as they were.
-    fn assemble(&mut self, names: &MediaNames) -> Result<Media<Self::Store>, Fail>
+    fn assemble(&mut self, names: &MediaNames) -> Result<Media<Self::Area, Self::Store>, Fail>
         requires idle { lent self.old ≡ None }
         requires distinct { IsTrue (are_distinct (all_names (name_lists names.now))) }
         ensures shape { IfOk result (HasShape (name_lists names.now)) }
@@ -137,7 +140,7 @@ pub trait World {
     /// Takes back the media that are lent, as many stores and tiers of each worker as there are lent
     /// names. From then on nothing is lent, and the world holds under each of the names what the
     /// store or tier at its place holds, and all else as it was.
-    fn give_back(&mut self, media: Media<Self::Store>)
+    fn give_back(&mut self, media: Media<Self::Area, Self::Store>)
         requires { IsSomeAnd (lent self.old) (λ names. HasShape names media) }
         ensures told { IfSome (lent self.old) (λ names. EachNamed (TellsHeld Self.Store.told (shelf self.new)) names media) }
         ensures others { IfSome (lent self.old) (λ names. KeepsBut (all_names names) (shelf self.old) (shelf self.new)) }
