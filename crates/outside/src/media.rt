@@ -4,7 +4,6 @@ ghost use Rattle.std.specs.Prelude.{◌≡◌, ◌++◌, map};
 ghost use Rattle.std.specs.String.{string_bytes};
 ghost use Rattle.outside.specs.Shelf.{all_names, are_distinct, is_among, name_lists, tier_names};
 
-use crate::disk::Disk;
 use crate::fused::Fused;
 use std::alloc::AllocError;
 
@@ -81,7 +80,7 @@ impl Clone for MediaNames {
 
 /// What a cluster works over: the areas of its journal, under-stores, and the tiers of workers.
 #[derive(Debug, Drop)]
-pub struct Media<D: Disk, O> {
+pub struct Media<D, O> {
     /// The journal's areas 0 and 1.
     pub areas: (Fused<D>, Fused<D>),
     /// The under-stores, from number 1 on.
