@@ -5,6 +5,7 @@ ghost use Rattle.outside.specs.Shelf.{all_names, are_distinct, name_lists};
 
 use crate::{Failing, MemDisk, MemWorld};
 use outside::disk::Disk;
+use outside::fused::Fused;
 use outside::media::MediaNames;
 use outside::world::{Fail, World};
 use std::alloc::{AllocError, Global};
@@ -70,6 +71,19 @@ fn gives<D: Disk>(area: &mut D, want: &str) -> bool {
     }
 }
 
+/// Writes a text into the first or the second of two areas.
+fn write_into_one<D: Disk>(
+    areas: &mut (Fused<D>, Fused<D>),
+    second: bool,
+    text: &str,
+) -> Result<(), Fail> {
+    if second {
+        write_into(&mut areas.1, text)
+    } else {
+        write_into(&mut areas.0, text)
+    }
+}
+
 /// Writes a text into the first or the second area of a world, as a program does that knows the
 /// trait alone.
 fn write_to_area<W: World>(
@@ -83,12 +97,7 @@ fn write_to_area<W: World>(
     ensures idle { W.lent world.new ≡ None }
 {
     let mut media = world.assemble(names)?;
-    let area = if second {
-        &mut media.areas.1
-    } else {
-        &mut media.areas.0
-    };
-    let written = write_into(area, text);
+    let written = write_into_one(&mut media.areas, second, text);
     world.give_back(media);
     written
 }
