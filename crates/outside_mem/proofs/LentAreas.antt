@@ -2,7 +2,7 @@
 use Rattle.std.proofs.Common.{◌≡◌, ℕ, Bool, true, false, List, [], ◌∷◌, ◌⊎◌, inl, inr, refl, sym, ap, ◌∙◌, subst}
 use Rattle.std.specs.Prelude.{IsSome, IsSomeAnd, None, Option, Some, is_some, ◌||◌}
 use Rattle.std.specs.Str.{bytes_eq}
-use Rattle.outside.specs.AreaShelf.{AreFresh, HoldsAreas, KeepsAreasBut}
+use Rattle.outside.specs.AreaShelf.{HoldsAreas, KeepsAreasBut}
 use Rattle.outside.specs.Fuse.{Fusing}
 use Rattle.outside.proofs.NamesApart.{first_among, name_turned}
 use Rattle.outside_mem.specs.Disks.{disk_history}

@@ -1,11 +1,10 @@
 -- Stores by name: what is under a name after stores came under names.
-use Rattle.std.proofs.Common.{◌≡◌, ℕ, zero, suc, Bool, true, false, ◌<◌, List, [], ◌∷◌, ◌++◌, length, take, drop, map, refl, sym, ap, ◌∙◌, arith, slice_set, slice_index_or}
-use Rattle.std.specs.Prelude.{not, Some, None, IsSome, is_some, option_map, Option, if◌then◌else◌}
+use Rattle.std.proofs.Common.{◌≡◌, ℕ, Bool, true, false, List, [], ◌∷◌, length, map, refl, sym, ◌∙◌, arith}
+use Rattle.std.specs.Prelude.{not, Some, None, IsSome, is_some, Option}
 use Rattle.std.specs.List.{AllZip}
 use Rattle.std.specs.Str.{bytes_eq}
-use Rattle.std.specs.String.{string_bytes}
 use Rattle.outside.specs.Shelf.{are_distinct, is_among, tier_names}
-use Rattle.outside.proofs.NamesApart.{apart, among_back, among_front, among-append, either_false, first_among, later_among, name_same, name_self, name_turned, not_true, parts_apart}
+use Rattle.outside.proofs.NamesApart.{apart, among_back, among_front, among-append, either_false, first_among, later_among, name_turned, not_true, parts_apart}
 use Rattle.outside.proofs.Deciding.{both_true}
 use Rattle.outside_mem.specs.Named.{HasPlaces, IsUnder, found_or, item_under, taken, taken_tiers, with_item, with_stores, with_tiers}
 use Rattle.outside_mem.specs.declared.named.Named.{Named}

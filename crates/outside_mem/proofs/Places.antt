@@ -1,10 +1,9 @@
 -- Places that are made for names.
-use Rattle.std.proofs.Common.{◌≡◌, ◌<◌, ℕ, zero, suc, length, get_or, map, arith, true, false, Bool, List, [], ◌∷◌, ◌++◌, ◌⊎◌, inl, inr, refl, sym, ap, ◌∙◌, subst}
-use Rattle.std.specs.Prelude.{IsSome, IsSomeAnd, is_some, option_map, Some, None, Option, if◌then◌else◌}
+use Rattle.std.proofs.Common.{◌≡◌, ◌<◌, ℕ, zero, suc, length, get_or, map, arith, true, false, List, [], ◌∷◌, ◌++◌, ◌⊎◌, inl, inr, refl, sym, ap, ◌∙◌, subst}
+use Rattle.std.specs.Prelude.{IsSome, IsSomeAnd, is_some, option_map, Some, None, Option}
 use Rattle.std.specs.Str.{bytes_eq}
-use Rattle.std.specs.String.{string_bytes}
 use Rattle.outside.specs.Shelf.{is_among, tier_names}
-use Rattle.outside.proofs.NamesApart.{among_back, among_front, among-append, either_true, first_among, later_among, name_same, name_self, name_turned}
+use Rattle.outside.proofs.NamesApart.{among_back, among_front, among-append, either_true, first_among, later_among, name_same}
 use Rattle.outside_mem.specs.Named.{GetsPlaces, HasPlaces, IsNew, item_under}
 use Rattle.outside_mem.specs.declared.named.Named.{Named}
 use Rattle.outside_mem.specs.declared.store.MemObjects.{MemObjects}
