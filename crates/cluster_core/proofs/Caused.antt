@@ -11,6 +11,7 @@ use Rattle.fs_model.specs.State.{NodeRow}
 use Rattle.fs_model.specs.Tests.{walk_fault, ◌only_if◌}
 use Rattle.fs_model.specs.Words.{block_count, first, path_len, ◌when◌}
 use Rattle.outside.specs.Keys.{KeyNames}
+use Rattle.outside.specs.declared.disk.Disk as disks
 use Rattle.outside.specs.declared.objects.Objects as objects
 use Rattle.outside.specs.declared.objects.ObjectRead as reads
 use Rattle.outside.specs.declared.objects.ObjectWrite as writes
@@ -133,7 +134,7 @@ module _ {S R W : Type 0} (o : objects.Ghosts S R W) where
   counted_after k n m len stay h = let found = there (fitting n.book len) h.1 in (found.0, at_more k.tiers.items m.tiers.items found.0 (λ s u rose. inl rose) (rose_later o found.0 k n m stay.same_length stay.faults found.1.at))
 
   -- a worker failed to make a reservation, after calls in which no count fell
-  failed_after : {w : writes.Ghosts W} (a b c : Core S R W w) (v len : ℕ) → 0 < v → MediaStays o a b → ChangesAt b.workers.items c.workers.items (pred v) (FailsNode o len) → TierCounted o a c v
+  failed_after : {D : Type 0} {d : disks.Ghosts D} {w : writes.Ghosts W} (a b c : Core D S R W d w) (v len : ℕ) → 0 < v → MediaStays d o a b → ChangesAt b.workers.items c.workers.items (pred v) (FailsNode o len) → TierCounted o a c v
   failed_after a b c v len some stays change =
       let i = pred v in
       let both = both_there (slice_get b.workers.items i) (slice_get c.workers.items i) change.at in
@@ -143,15 +144,15 @@ module _ {S R W : Type 0} (o : objects.Ghosts S R W) where
       (some, subst (λ x. IsSomeAnd x (λ n. IsSomeAnd (slice_get c.workers.items i) (λ m. NodeCounted o n m))) (sym was) (subst (λ x. IsSomeAnd x (λ m. NodeCounted o k m)) (sym both.3) counted))
 
   -- so it is between cores with the same workers
-  counted_within : {w : writes.Ghosts W} (a b c d : Core S R W w) (v : ℕ) → b.workers ≡ a.workers → d.workers ≡ c.workers → TierCounted o b c v → TierCounted o a d v
-  counted_within a b c d v before after h = (h.0, subst (λ x. At x.items d.workers.items (pred v) (NodeCounted o)) before (subst (λ x. At b.workers.items x.items (pred v) (NodeCounted o)) (sym after) h.1))
+  counted_within : {D : Type 0} {d : disks.Ghosts D} {w : writes.Ghosts W} (a b c z : Core D S R W d w) (v : ℕ) → b.workers ≡ a.workers → z.workers ≡ c.workers → TierCounted o b c v → TierCounted o a z v
+  counted_within a b c z v before after h = (h.0, subst (λ x. At x.items z.workers.items (pred v) (NodeCounted o)) before (subst (λ x. At b.workers.items x.items (pred v) (NodeCounted o)) (sym after) h.1))
 
   -- so is the answer of a writer that was put back then, after the commit of its block
-  pub room_caused : {w : writes.Ghosts W} (a b c d : Core S R W w) (x y : Writer W) → 0 < x.worker → y ≡ closed_writer false x → MediaStays o a b → (len : ℕ) → ChangesAt b.workers.items c.workers.items (pred y.worker) (FailsNode o len) → d.workers ≡ c.workers → (reply : Reply) → reply ≡ Reply.Refused (Refusal.TierFault x.worker) → OnlyTier (TierCounted o a d) reply
-  room_caused a b c d x y some closed stays len change after reply is =
+  pub room_caused : {D : Type 0} {d : disks.Ghosts D} {w : writes.Ghosts W} (a b c z : Core D S R W d w) (x y : Writer W) → 0 < x.worker → y ≡ closed_writer false x → MediaStays d o a b → (len : ℕ) → ChangesAt b.workers.items c.workers.items (pred y.worker) (FailsNode o len) → z.workers ≡ c.workers → (reply : Reply) → reply ≡ Reply.Refused (Refusal.TierFault x.worker) → OnlyTier (TierCounted o a z) reply
+  room_caused a b c z x y some closed stays len change after reply is =
       let same : y.worker ≡ x.worker = ap (λ z. z.worker) closed in
       let here = subst (λ k. ChangesAt b.workers.items c.workers.items (pred k) (FailsNode o len)) same change in
-      subst (OnlyTier (TierCounted o a d)) (sym is) (counted_within a a c d x.worker refl after (failed_after a b c x.worker len some stays here))
+      subst (OnlyTier (TierCounted o a z)) (sym is) (counted_within a a c z x.worker refl after (failed_after a b c x.worker len some stays here))
 
   -- ---- a search for a source
 
@@ -170,9 +171,9 @@ module _ {S R W : Type 0} (o : objects.Ghosts S R W) where
 
 -- ---- events
 
-module _ {S R W : Type 0} (o : objects.Ghosts S R W) (r : reads.Ghosts R) (w : writes.Ghosts W) where
+module _ {D S R W : Type 0} {d : disks.Ghosts D} (o : objects.Ghosts S R W) (r : reads.Ghosts R) (w : writes.Ghosts W) where
   -- an event that can only answer the fault of a tier
-  caused_by : (old new : Core S R W w) (who : ℕ) (e : Event) (reply : Reply) → OnlyTier (TierCounted o old new) reply → IsCaused o r w old new who e reply
+  caused_by : (old new : Core D S R W d w) (who : ℕ) (e : Event) (reply : Reply) → OnlyTier (TierCounted o old new) reply → IsCaused d o r w old new who e reply
   caused_by old new who e (Reply.Refused (Refusal.TierFault v)) h = inl h
   caused_by old new who e (Reply.Refused (Refusal.UnderFault s)) h = absurd h
   caused_by old new who e (Reply.Refused Refusal.JournalFault) h = absurd h
@@ -180,25 +181,25 @@ module _ {S R W : Type 0} (o : objects.Ghosts S R W) (r : reads.Ghosts R) (w : w
   caused_by old new who e reply h = tt
 
   -- a refusal by a test whose refusals no device gave
-  pub refused_caused : (old new : Core S R W w) (who : ℕ) (e : Event) (t : Option Reply) (why : Refusal) → IfSome t IsCalm → t ≡ Some (Reply.Refused why) → IsCaused o r w old new who e (Reply.Refused why)
+  pub refused_caused : (old new : Core D S R W d w) (who : ℕ) (e : Event) (t : Option Reply) (why : Refusal) → IfSome t IsCalm → t ≡ Some (Reply.Refused why) → IsCaused d o r w old new who e (Reply.Refused why)
   refused_caused old new who e t why calm is = caused_by old new who e (Reply.Refused why) (only_more (Reply.Refused why) (λ v h. absurd h) (subst (λ q. IfSome q IsCalm) is calm))
 
   -- so it is after a hand was taken out, and before it is put back
-  caused_within : (a b c d : Core S R W w) (who : ℕ) (e : Event) (reply : Reply) → b.workers ≡ a.workers → d.workers ≡ c.workers → OnlyTier (TierCounted o b c) reply → IsCaused o r w a d who e reply
-  caused_within a b c d who e reply before after h = caused_by a d who e reply (only_more reply (λ v. counted_within o a b c d v before after) h)
+  caused_within : (a b c z : Core D S R W d w) (who : ℕ) (e : Event) (reply : Reply) → b.workers ≡ a.workers → z.workers ≡ c.workers → OnlyTier (TierCounted o b c) reply → IsCaused d o r w a z who e reply
+  caused_within a b c z who e reply before after h = caused_by a z who e reply (only_more reply (λ v. counted_within o a b c z v before after) h)
 
   -- a source was sought
-  pub next_caused : (a b c d : Core S R W w) (who : ℕ) (e : Event) → b.workers ≡ a.workers → d.workers ≡ c.workers → (rows : List NodeRow) (bs : ℕ) (h k : Hand R W) (gave : Found) → HandSeeks o r rows bs b.workers.items c.workers.items h k gave → (reply : Reply) → reply ≡ found_reply gave → IsCaused o r w a d who e reply
-  next_caused a b c d who e before after rows bs h k gave found reply is = subst (IsCaused o r w a d who e) (sym is) (caused_within a b c d who e (found_reply gave) before after (hand_sought o r rows bs b.workers.items c.workers.items h k gave found))
+  pub next_caused : (a b c z : Core D S R W d w) (who : ℕ) (e : Event) → b.workers ≡ a.workers → z.workers ≡ c.workers → (rows : List NodeRow) (bs : ℕ) (h k : Hand R W) (gave : Found) → HandSeeks o r rows bs b.workers.items c.workers.items h k gave → (reply : Reply) → reply ≡ found_reply gave → IsCaused d o r w a z who e reply
+  next_caused a b c z who e before after rows bs h k gave found reply is = subst (IsCaused d o r w a z who e) (sym is) (caused_within a b c z who e (found_reply gave) before after (hand_sought o r rows bs b.workers.items c.workers.items h k gave found))
 
   -- ---- a hand that was taken out of its label and put back
 
-  module _ (old mid new : Core S R W w) (who : ℕ) (l k : List ℕ) (t u : Hand R W) (same : k ≡ l) (ended : ChangesAt old.hands.items mid.hands.items (pred who) (EndsHand l t)) (added : ChangesAt mid.hands.items new.hands.items (pred who) (AddsHand k u)) where
+  module _ (old mid new : Core D S R W d w) (who : ℕ) (l k : List ℕ) (t u : Hand R W) (same : k ≡ l) (ended : ChangesAt old.hands.items mid.hands.items (pred who) (EndsHand l t)) (added : ChangesAt mid.hands.items new.hands.items (pred who) (AddsHand k u)) where
     at_label : (P : Hand R W → Hand R W → Type 0) → P t u → AtLabel o r w old new who l P
     at_label P holds = at_set P (pred who) l t u old.hands.items new.hands.items (sets_hand (pred who) l k t u old.hands.items mid.hands.items new.hands.items same ended added) holds
 
   -- a poll, by what it gave
-  stream_polled : (old new : Core S R W w) (who : ℕ) (l : List ℕ) (block max : ℕ) (x y : Stream R) (gave : Gave) → PollOf r block max x y gave → ((P : Hand R W → Hand R W → Type 0) → P (Hand.Reading x) (Hand.Reading y) → AtLabel o r w old new who l P) → IsCaused o r w old new who (Event.Poll l max) (reply_of gave)
+  stream_polled : (old new : Core D S R W d w) (who : ℕ) (l : List ℕ) (block max : ℕ) (x y : Stream R) (gave : Gave) → PollOf r block max x y gave → ((P : Hand R W → Hand R W → Type 0) → P (Hand.Reading x) (Hand.Reading y) → AtLabel o r w old new who l P) → IsCaused d o r w old new who (Event.Poll l max) (reply_of gave)
   stream_polled old new who l block max x y Gave.NotReady reads at =
       let found = there_is (λ b. (b.failed ≡ false) × SourcePolls r max b y.source Gave.NotReady) x.source reads.source in
       let then_ = there_is (Waited r found.0) y.source found.2.1 in
@@ -209,24 +210,24 @@ module _ {S R W : Type 0} (o : objects.Ghosts S R W) (r : reads.Ghosts R) (w : w
       inr (l, refl, at (HandRose o r w v) (subst (λ q. HandRose o r w q (Hand.Reading x) (Hand.Reading y)) (sym found.2.1.0) (rose_both o r w r.faults x.source y.source found.0 then_.0 found.1 then_.1 then_.2.unsteady then_.2.rose)))
   stream_polled old new who l block max x y gave reads at = tt
 
-  hand_polled : (old new : Core S R W w) (who : ℕ) (l : List ℕ) (block max : ℕ) (t u : Hand R W) (gave : Gave) → HandPolls r block max t u gave → ((P : Hand R W → Hand R W → Type 0) → P t u → AtLabel o r w old new who l P) → IsCaused o r w old new who (Event.Poll l max) (reply_of gave)
+  hand_polled : (old new : Core D S R W d w) (who : ℕ) (l : List ℕ) (block max : ℕ) (t u : Hand R W) (gave : Gave) → HandPolls r block max t u gave → ((P : Hand R W → Hand R W → Type 0) → P t u → AtLabel o r w old new who l P) → IsCaused d o r w old new who (Event.Poll l max) (reply_of gave)
   hand_polled old new who l block max (Hand.Reading x) (Hand.Reading y) gave h at = stream_polled old new who l block max x y gave h at
   hand_polled old new who l block max (Hand.Reading x) (Hand.Writing y) gave h at = absurd h
-  hand_polled old new who l block max (Hand.Writing x) u gave h at = subst (λ g. IsCaused o r w old new who (Event.Poll l max) (reply_of g)) (sym h.1) tt
+  hand_polled old new who l block max (Hand.Writing x) u gave h at = subst (λ g. IsCaused d o r w old new who (Event.Poll l max) (reply_of g)) (sym h.1) tt
 
-  pub poll_caused : (old mid new : Core S R W w) (who : ℕ) (l k : List ℕ) (t u : Hand R W) → k ≡ l → ChangesAt old.hands.items mid.hands.items (pred who) (EndsHand l t) → ChangesAt mid.hands.items new.hands.items (pred who) (AddsHand k u) → (block max : ℕ) (gave : Gave) → HandPolls r block max t u gave → (reply : Reply) → reply ≡ reply_of gave → IsCaused o r w old new who (Event.Poll l max) reply
-  poll_caused old mid new who l k t u same ended added block max gave h reply is = subst (IsCaused o r w old new who (Event.Poll l max)) (sym is) (hand_polled old new who l block max t u gave h (at_label old mid new who l k t u same ended added))
+  pub poll_caused : (old mid new : Core D S R W d w) (who : ℕ) (l k : List ℕ) (t u : Hand R W) → k ≡ l → ChangesAt old.hands.items mid.hands.items (pred who) (EndsHand l t) → ChangesAt mid.hands.items new.hands.items (pred who) (AddsHand k u) → (block max : ℕ) (gave : Gave) → HandPolls r block max t u gave → (reply : Reply) → reply ≡ reply_of gave → IsCaused d o r w old new who (Event.Poll l max) reply
+  poll_caused old mid new who l k t u same ended added block max gave h reply is = subst (IsCaused d o r w old new who (Event.Poll l max)) (sym is) (hand_polled old new who l block max t u gave h (at_label old mid new who l k t u same ended added))
 
   -- a put, by how it ended
-  writer_put : (old new : Core S R W w) (who : ℕ) (l : List ℕ) (block : ℕ) (fill : Fill) (x y : Writer W) (end : PutEnd) → DidPut w block fill end x y → ((P : Hand R W → Hand R W → Type 0) → P (Hand.Writing x) (Hand.Writing y) → AtLabel o r w old new who l P) → IsCaused o r w old new who (Event.Put l fill) (put_reply end)
+  writer_put : (old new : Core D S R W d w) (who : ℕ) (l : List ℕ) (block : ℕ) (fill : Fill) (x y : Writer W) (end : PutEnd) → DidPut w block fill end x y → ((P : Hand R W → Hand R W → Type 0) → P (Hand.Writing x) (Hand.Writing y) → AtLabel o r w old new who l P) → IsCaused d o r w old new who (Event.Put l fill) (put_reply end)
   writer_put old new who l block fill x y (PutEnd.TierFault v) did at = inr (l, refl, at (HandRose o r w v) (sym did.1, did.2.unsteady, did.2.rose))
   writer_put old new who l block fill x y (PutEnd.UnderFault s) did at = (l, refl, at (UnderRose o r w s) did.1)
   writer_put old new who l block fill x y end did at = tt
 
-  hand_put : (old new : Core S R W w) (who : ℕ) (l : List ℕ) (block : ℕ) (fill : Fill) (t u : Hand R W) (end : PutEnd) → DidIn w block fill end t u → ((P : Hand R W → Hand R W → Type 0) → P t u → AtLabel o r w old new who l P) → IsCaused o r w old new who (Event.Put l fill) (put_reply end)
-  hand_put old new who l block fill (Hand.Reading x) u end did at = subst (λ g. IsCaused o r w old new who (Event.Put l fill) (put_reply g)) (sym did.0) tt
+  hand_put : (old new : Core D S R W d w) (who : ℕ) (l : List ℕ) (block : ℕ) (fill : Fill) (t u : Hand R W) (end : PutEnd) → DidIn w block fill end t u → ((P : Hand R W → Hand R W → Type 0) → P t u → AtLabel o r w old new who l P) → IsCaused d o r w old new who (Event.Put l fill) (put_reply end)
+  hand_put old new who l block fill (Hand.Reading x) u end did at = subst (λ g. IsCaused d o r w old new who (Event.Put l fill) (put_reply g)) (sym did.0) tt
   hand_put old new who l block fill (Hand.Writing x) (Hand.Reading y) end did at = absurd did
   hand_put old new who l block fill (Hand.Writing x) (Hand.Writing y) end did at = writer_put old new who l block fill x y end did at
 
-  pub put_caused : (old mid new : Core S R W w) (who : ℕ) (l k : List ℕ) (t u : Hand R W) → k ≡ l → ChangesAt old.hands.items mid.hands.items (pred who) (EndsHand l t) → ChangesAt mid.hands.items new.hands.items (pred who) (AddsHand k u) → (block : ℕ) (fill : Fill) (end : PutEnd) → DidIn w block fill end t u → (reply : Reply) → reply ≡ put_reply end → IsCaused o r w old new who (Event.Put l fill) reply
-  put_caused old mid new who l k t u same ended added block fill end did reply is = subst (IsCaused o r w old new who (Event.Put l fill)) (sym is) (hand_put old new who l block fill t u end did (at_label old mid new who l k t u same ended added))
+  pub put_caused : (old mid new : Core D S R W d w) (who : ℕ) (l k : List ℕ) (t u : Hand R W) → k ≡ l → ChangesAt old.hands.items mid.hands.items (pred who) (EndsHand l t) → ChangesAt mid.hands.items new.hands.items (pred who) (AddsHand k u) → (block : ℕ) (fill : Fill) (end : PutEnd) → DidIn w block fill end t u → (reply : Reply) → reply ≡ put_reply end → IsCaused d o r w old new who (Event.Put l fill) reply
+  put_caused old mid new who l k t u same ended added block fill end did reply is = subst (IsCaused d o r w old new who (Event.Put l fill)) (sym is) (hand_put old new who l block fill t u end did (at_label old mid new who l k t u same ended added))

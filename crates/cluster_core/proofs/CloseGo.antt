@@ -20,6 +20,7 @@ use Rattle.fs_model.specs.Choices.{fault_free}
 use Rattle.fs_model.specs.Journaling.{fuse_serves}
 use Rattle.fs_model.specs.Machine.{accepted, hands_of, put_back}
 use Rattle.fs_model.specs.Step.{Step, label_choices}
+use Rattle.outside.specs.declared.disk.Disk as disks
 use Rattle.outside.specs.declared.objects.Objects as objects
 use Rattle.outside.specs.declared.objects.ObjectRead as reads
 use Rattle.outside.specs.declared.objects.ObjectWrite as writes
@@ -67,11 +68,11 @@ module _ (A : State) (m : machine.Writer) where
   open_freed None W = refl
   open_freed (Some c) W = refl
 
-module _ {S R W : Type 0} (o : objects.Ghosts S R W) (r : reads.Ghosts R) (w : writes.Ghosts W) (old new : Core S R W w) (l : Label) (i : ℕ) (within : i < 64) (rest : KeepsRest old new) where
+module _ {D S R W : Type 0} {d : disks.Ghosts D} (o : objects.Ghosts S R W) (r : reads.Ghosts R) (w : writes.Ghosts W) (old new : Core D S R W d w) (l : Label) (i : ℕ) (within : i < 64) (rest : KeepsRest old new) where
   -- ---- a stream
 
-  module _ (x : Stream R) (workers : new.workers ≡ old.workers) (hands : ChangesAt old.hands.items new.hands.items i (EndsHand l (Hand.Reading x))) (U : Setup) (V : Whole) (s : Stands o r w U old V) where
-    close_reading : (m : machine.Stream) → hand_at (hands_of V (suc i)) l ≡ Some (machine.Hand.Reading m) → StreamFits r s.known old.names.next_id old.block m x → Goes o r w U old new V (suc i) (Event.Close l) Reply.Done
+  module _ (x : Stream R) (workers : new.workers ≡ old.workers) (hands : ChangesAt old.hands.items new.hands.items i (EndsHand l (Hand.Reading x))) (U : Setup) (V : Whole) (s : Stands d o r w U old V) where
+    close_reading : (m : machine.Stream) → hand_at (hands_of V (suc i)) l ≡ Some (machine.Hand.Reading m) → StreamFits r s.known old.names.next_id old.block m x → Goes d o r w U old new V (suc i) (Event.Close l) Reply.Done
     close_reading m at fits =
         let H = hands_of V (suc i) in
         let B = release (suc i) l V.body in
@@ -98,24 +99,24 @@ module _ {S R W : Type 0} (o : objects.Ghosts S R W) (r : reads.Ghosts R) (w : w
           };
         }
 
-    close_by_kind : (k : machine.Hand) → hand_at (hands_of V (suc i)) l ≡ Some k → Fits r w s.known old.workers.items old.names.next_id old.block (suc i, l) k (Hand.Reading x) → Goes o r w U old new V (suc i) (Event.Close l) Reply.Done
+    close_by_kind : (k : machine.Hand) → hand_at (hands_of V (suc i)) l ≡ Some k → Fits r w s.known old.workers.items old.names.next_id old.block (suc i, l) k (Hand.Reading x) → Goes d o r w U old new V (suc i) (Event.Close l) Reply.Done
     close_by_kind (machine.Hand.Reading m) at fits = close_reading m at fits
     close_by_kind (machine.Hand.Writing m) at fits = absurd fits
     close_by_kind (machine.Hand.Moving m) at fits = absurd fits
     close_by_kind (machine.Hand.Storing m) at fits = absurd fits
 
-    pub close_stream : Goes o r w U old new V (suc i) (Event.Close l) Reply.Done
+    pub close_stream : Goes d o r w U old new V (suc i) (Event.Close l) Reply.Done
     close_stream =
         let found = fits_at r w s.known old.workers.items old.names.next_id old.block V.hands old.hands.items s.hands i within l (Hand.Reading x) (end_there i l (Hand.Reading x) old.hands.items new.hands.items hands) in
         close_by_kind found.0 found.1 found.2
 
   -- ---- a writer
 
-  module _ (x : Writer W) (hands : ChangesAt old.hands.items new.hands.items i (EndsHand l (Hand.Writing x))) (U : Setup) (V : Whole) (s : Stands o r w U old V) where
+  module _ (x : Writer W) (hands : ChangesAt old.hands.items new.hands.items i (EndsHand l (Hand.Writing x))) (U : Setup) (V : Whole) (s : Stands d o r w U old V) where
     -- the label's end, with what it does to the writer's worker
     close_writing : (m : machine.Writer) (f : Worker → Worker) → hand_at (hands_of V (suc i)) l ≡ Some (machine.Hand.Writing m) → ((W : Worker) → free_open V.body m m.block W ≡ f W)
         → WorkersStand new.workers.items (change_worker m.worker f V.body) → SetupFits U old.block old.area new.workers.items → NodesStand o s.known old.names.next_id old.block new.workers.items
-        → Leaves (suc i, l) s.known s.known old.workers.items new.workers.items old.names.next_id old.names.next_id → Goes o r w U old new V (suc i) (Event.Close l) Reply.Done
+        → Leaves (suc i, l) s.known s.known old.workers.items new.workers.items old.names.next_id old.names.next_id → Goes d o r w U old new V (suc i) (Event.Close l) Reply.Done
     close_writing m f at frees workers setup objects left =
         let H = hands_of V (suc i) in
         let B = release (suc i) l (change_worker m.worker f V.body) in
@@ -144,7 +145,7 @@ module _ {S R W : Type 0} (o : objects.Ghosts S R W) (r : reads.Ghosts R) (w : w
         }
 
     -- nothing is freed
-    close_kept : (m : machine.Writer) → hand_at (hands_of V (suc i)) l ≡ Some (machine.Hand.Writing m) → ((W : Worker) → free_open V.body m m.block W ≡ W) → new.workers ≡ old.workers → Goes o r w U old new V (suc i) (Event.Close l) Reply.Done
+    close_kept : (m : machine.Writer) → hand_at (hands_of V (suc i)) l ≡ Some (machine.Hand.Writing m) → ((W : Worker) → free_open V.body m m.block W ≡ W) → new.workers ≡ old.workers → Goes d o r w U old new V (suc i) (Event.Close l) Reply.Done
     close_kept m at frees same =
         let nodes : new.workers.items ≡ old.workers.items = ap (λ v. v.items) same in
         close_writing m (λ W. W) at frees
@@ -155,7 +156,7 @@ module _ {S R W : Type 0} (o : objects.Ghosts S R W) (r : reads.Ghosts R) (w : w
 
     -- the reservation is freed
     close_freed : (m : machine.Writer) (n : ℕ) → hand_at (hands_of V (suc i)) l ≡ Some (machine.Hand.Writing m) → m.worker ≡ x.worker → (x.worker ≡ 0 → ⊥) → s.known.owner x.worker n ≡ Some (suc i, l) → ((W : Worker) → free_open V.body m m.block W ≡ without_room n W)
-        → ChangesAt old.workers.items new.workers.items (pred x.worker) (FreesRoom n) → Goes o r w U old new V (suc i) (Event.Close l) Reply.Done
+        → ChangesAt old.workers.items new.workers.items (pred x.worker) (FreesRoom n) → Goes d o r w U old new V (suc i) (Event.Close l) Reply.Done
     close_freed m n at worker some owned frees change =
         let here : ChangesAt old.workers.items new.workers.items (pred m.worker) (FreesRoom n) = subst (λ v. ChangesAt old.workers.items new.workers.items (pred v) (FreesRoom n)) (sym worker) change in
         let rows = changes_by old.workers.items new.workers.items (pred m.worker) here (λ a b c. row_freed n a b c) in
@@ -185,11 +186,11 @@ module _ {S R W : Type 0} (o : objects.Ghosts S R W) (r : reads.Ghosts R) (w : w
     by_room : (m : machine.Writer) (e : Option ℕ) → x.room ≡ e → hand_at (hands_of V (suc i)) l ≡ Some (machine.Hand.Writing m) → WriterFits w s.known old.workers.items old.names.next_id old.block (suc i, l) m x
         → ((n : ℕ) → x.room ≡ Some n → runs_here old.workers.items x.worker x.started ≡ true → ChangesAt old.workers.items new.workers.items (pred x.worker) (FreesRoom n))
         → ((n : ℕ) → x.room ≡ Some n → runs_here old.workers.items x.worker x.started ≡ false → new.workers ≡ old.workers)
-        → (x.room ≡ None → new.workers ≡ old.workers) → Goes o r w U old new V (suc i) (Event.Close l) Reply.Done
+        → (x.room ≡ None → new.workers ≡ old.workers) → Goes d o r w U old new V (suc i) (Event.Close l) Reply.Done
     by_room m None is at fits freed stopped none = close_kept m at (λ W. open_freed V.body m m.block W ∙ ap (λ q. freed_by V.body m q W) (fits.room ∙ is)) (none is)
     by_room m (Some n) is at fits freed stopped none =
         let frees : (W : Worker) → free_open V.body m m.block W ≡ cond (runs_here old.workers.items x.worker x.started) (without_room n W) W = λ W. open_freed V.body m m.block W ∙ ap (λ q. freed_by V.body m q W) (fits.room ∙ is) ∙ ap (λ b. cond b (without_room n W) W) (runs_is old.workers.items V.body s.workers m.worker m.start ∙ ap₂ (runs_here old.workers.items) fits.worker fits.start) in
-        elim (runs_here old.workers.items x.worker x.started) as (λ b. runs_here old.workers.items x.worker x.started ≡ b → Goes o r w U old new V (suc i) (Event.Close l) Reply.Done) [
+        elim (runs_here old.workers.items x.worker x.started) as (λ b. runs_here old.workers.items x.worker x.started ≡ b → Goes d o r w U old new V (suc i) (Event.Close l) Reply.Done) [
           | true ↦ λ runs. close_freed m n at fits.worker (runs_there old.workers.items x.worker x.started runs) (subst (λ q. IfSome q (λ k. (s.known.owner x.worker k ≡ Some (suc i, l)) × HasRoomOf old.workers.items x.worker x.started k old.block)) is fits.reserved).0 (λ W. frees W ∙ ap (λ b. cond b (without_room n W) W) runs) (freed n is runs)
           | false ↦ λ stops. close_kept m at (λ W. frees W ∙ ap (λ b. cond b (without_room n W) W) stops) (stopped n is stops)
         ] refl
@@ -197,7 +198,7 @@ module _ {S R W : Type 0} (o : objects.Ghosts S R W) (r : reads.Ghosts R) (w : w
     writer_by_kind : (k : machine.Hand) → hand_at (hands_of V (suc i)) l ≡ Some k → Fits r w s.known old.workers.items old.names.next_id old.block (suc i, l) k (Hand.Writing x)
         → ((n : ℕ) → x.room ≡ Some n → runs_here old.workers.items x.worker x.started ≡ true → ChangesAt old.workers.items new.workers.items (pred x.worker) (FreesRoom n))
         → ((n : ℕ) → x.room ≡ Some n → runs_here old.workers.items x.worker x.started ≡ false → new.workers ≡ old.workers)
-        → (x.room ≡ None → new.workers ≡ old.workers) → Goes o r w U old new V (suc i) (Event.Close l) Reply.Done
+        → (x.room ≡ None → new.workers ≡ old.workers) → Goes d o r w U old new V (suc i) (Event.Close l) Reply.Done
     writer_by_kind (machine.Hand.Reading m) at fits freed stopped none = absurd fits
     writer_by_kind (machine.Hand.Writing m) at fits freed stopped none = by_room m x.room refl at fits freed stopped none
     writer_by_kind (machine.Hand.Moving m) at fits freed stopped none = absurd fits
@@ -205,15 +206,15 @@ module _ {S R W : Type 0} (o : objects.Ghosts S R W) (r : reads.Ghosts R) (w : w
 
     pub close_writer : ((n : ℕ) → x.room ≡ Some n → runs_here old.workers.items x.worker x.started ≡ true → ChangesAt old.workers.items new.workers.items (pred x.worker) (FreesRoom n))
         → ((n : ℕ) → x.room ≡ Some n → runs_here old.workers.items x.worker x.started ≡ false → new.workers ≡ old.workers)
-        → (x.room ≡ None → new.workers ≡ old.workers) → Goes o r w U old new V (suc i) (Event.Close l) Reply.Done
+        → (x.room ≡ None → new.workers ≡ old.workers) → Goes d o r w U old new V (suc i) (Event.Close l) Reply.Done
     close_writer freed stopped none =
         let found = fits_at r w s.known old.workers.items old.names.next_id old.block V.hands old.hands.items s.hands i within l (Hand.Writing x) (end_there i l (Hand.Writing x) old.hands.items new.hands.items hands) in
         writer_by_kind found.0 found.1 found.2 freed stopped none
 
-module _ {S R W : Type 0} (o : objects.Ghosts S R W) (r : reads.Ghosts R) (w : writes.Ghosts W) (old new : Core S R W w) (l : Label) where
+module _ {D S R W : Type 0} {d : disks.Ghosts D} (o : objects.Ghosts S R W) (r : reads.Ghosts R) (w : writes.Ghosts W) (old new : Core D S R W d w) (l : Label) where
   -- no such label
-  pub close_refused : (who : ℕ) → is_actor who ≡ true → KeepsRest old new → new.workers ≡ old.workers → ChangesAt old.hands.items new.hands.items (pred who) KeepsHands → IsSomeAnd (slice_get old.hands.items (pred who)) (λ s. hand_in s l ≡ None) → Steps o r w old new who (Event.Close l) (Reply.Refused Refusal.BadLabel)
-  close_refused who is rest workers change absent U V s = by_actor (λ a. ChangesAt old.hands.items new.hands.items (pred a) KeepsHands → IsSomeAnd (slice_get old.hands.items (pred a)) (λ s. hand_in s l ≡ None) → Goes o r w U old new V a (Event.Close l) (Reply.Refused Refusal.BadLabel)) (λ i within kept none.
+  pub close_refused : (who : ℕ) → is_actor who ≡ true → KeepsRest old new → new.workers ≡ old.workers → ChangesAt old.hands.items new.hands.items (pred who) KeepsHands → IsSomeAnd (slice_get old.hands.items (pred who)) (λ s. hand_in s l ≡ None) → Steps d o r w old new who (Event.Close l) (Reply.Refused Refusal.BadLabel)
+  close_refused who is rest workers change absent U V s = by_actor (λ a. ChangesAt old.hands.items new.hands.items (pred a) KeepsHands → IsSomeAnd (slice_get old.hands.items (pred a)) (λ s. hand_in s l ≡ None) → Goes d o r w U old new V a (Event.Close l) (Reply.Refused Refusal.BadLabel)) (λ i within kept none.
       let gone : hand_at (hands_of V (suc i)) l ≡ None = absent_at r w s.known old.workers.items old.names.next_id old.block V.hands old.hands.items s.hands i within l none in
       goes_refused o r w U old new V (suc i) (Event.Close l) (Reply.Refused Refusal.BadLabel) (stands_kept o r w U V old new i within rest workers kept s) (ap (λ h. refuse Refusal.BadLabel (is_none h)) gone) refl refl) who is change absent
 
@@ -221,19 +222,19 @@ module _ {S R W : Type 0} (o : objects.Ghosts S R W) (r : reads.Ghosts R) (w : w
   pub close_done : (who : ℕ) → is_actor who ≡ true → (h : Hand R W) → KeepsRest old new → ChangesAt old.hands.items new.hands.items (pred who) (EndsHand l h)
       → ((v started n : ℕ) → room_in h ≡ Some (v, started, n) → runs_here old.workers.items v started ≡ true → ChangesAt old.workers.items new.workers.items (pred v) (FreesRoom n))
       → ((v started n : ℕ) → room_in h ≡ Some (v, started, n) → runs_here old.workers.items v started ≡ false → new.workers ≡ old.workers)
-      → (room_in h ≡ None → new.workers ≡ old.workers) → Steps o r w old new who (Event.Close l) Reply.Done
-  close_done who is (Hand.Reading x) rest change freed stopped none U V s = by_actor (λ a. ChangesAt old.hands.items new.hands.items (pred a) (EndsHand l (Hand.Reading x)) → Goes o r w U old new V a (Event.Close l) Reply.Done) (λ i within ends. close_stream o r w old new l i within rest x (none refl) ends U V s) who is change
-  close_done who is (Hand.Writing x) rest change freed stopped none U V s = by_actor (λ a. ChangesAt old.hands.items new.hands.items (pred a) (EndsHand l (Hand.Writing x)) → Goes o r w U old new V a (Event.Close l) Reply.Done) (λ i within ends.
+      → (room_in h ≡ None → new.workers ≡ old.workers) → Steps d o r w old new who (Event.Close l) Reply.Done
+  close_done who is (Hand.Reading x) rest change freed stopped none U V s = by_actor (λ a. ChangesAt old.hands.items new.hands.items (pred a) (EndsHand l (Hand.Reading x)) → Goes d o r w U old new V a (Event.Close l) Reply.Done) (λ i within ends. close_stream o r w old new l i within rest x (none refl) ends U V s) who is change
+  close_done who is (Hand.Writing x) rest change freed stopped none U V s = by_actor (λ a. ChangesAt old.hands.items new.hands.items (pred a) (EndsHand l (Hand.Writing x)) → Goes d o r w U old new V a (Event.Close l) Reply.Done) (λ i within ends.
       close_writer o r w old new l i within rest x ends U V s
       (λ n there runs. freed x.worker x.started n (ap (option_map (λ k. (x.worker, x.started, k))) there) runs)
       (λ n there stops. stopped x.worker x.started n (ap (option_map (λ k. (x.worker, x.started, k))) there) stops)
       (λ gone. none (ap (option_map (λ k. (x.worker, x.started, k))) gone))) who is change
 
   -- the same, where the hand is taken out first and its reservation freed then
-  pub close_taken : (mid : Core S R W w) (who : ℕ) → is_actor who ≡ true → (h : Hand R W) → KeepsRest old mid → mid.workers ≡ old.workers → ChangesAt old.hands.items mid.hands.items (pred who) (EndsHand l h) → KeepsRest mid new → new.hands ≡ mid.hands
+  pub close_taken : (mid : Core D S R W d w) (who : ℕ) → is_actor who ≡ true → (h : Hand R W) → KeepsRest old mid → mid.workers ≡ old.workers → ChangesAt old.hands.items mid.hands.items (pred who) (EndsHand l h) → KeepsRest mid new → new.hands ≡ mid.hands
       → ((v started n : ℕ) → room_in h ≡ Some (v, started, n) → runs_here mid.workers.items v started ≡ true → ChangesAt mid.workers.items new.workers.items (pred v) (FreesRoom n))
       → ((v started n : ℕ) → room_in h ≡ Some (v, started, n) → runs_here mid.workers.items v started ≡ false → new.workers ≡ mid.workers)
-      → (room_in h ≡ None → new.workers ≡ mid.workers) → Steps o r w old new who (Event.Close l) Reply.Done
+      → (room_in h ≡ None → new.workers ≡ mid.workers) → Steps d o r w old new who (Event.Close l) Reply.Done
   close_taken mid who is h first workers taken second hands freed stopped none =
       let nodes : mid.workers.items ≡ old.workers.items = ap (λ v. v.items) workers in
       close_done who is h (kept_twice old mid new first second) (subst (λ ls. ChangesAt old.hands.items ls (pred who) (EndsHand l h)) (ap (λ v. v.items) (sym hands)) taken)

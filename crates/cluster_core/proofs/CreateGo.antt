@@ -22,6 +22,7 @@ use Rattle.fs_model.specs.Choices.{fault_free}
 use Rattle.fs_model.specs.Journaling.{fuse_serves}
 use Rattle.fs_model.specs.Machine.{refusal, hands_of, put_back}
 use Rattle.fs_model.specs.Step.{Step}
+use Rattle.outside.specs.declared.disk.Disk as disks
 use Rattle.outside.specs.declared.objects.Objects as objects
 use Rattle.outside.specs.declared.objects.ObjectRead as reads
 use Rattle.outside.specs.declared.objects.ObjectWrite as writes
@@ -193,9 +194,9 @@ module _ {S W : Type 0} (w : writes.Ghosts W) (K : Knowledge) (nodes : List (Nod
 
 -- ---- the event
 
-module _ {S R W : Type 0} (o : objects.Ghosts S R W) (r : reads.Ghosts R) (w : writes.Ghosts W) (old : Core S R W w) (i : ℕ) (within : i < 64) (l : Label) (p : Path) (at : ℕ) where
+module _ {D S R W : Type 0} {d : disks.Ghosts D} (o : objects.Ghosts S R W) (r : reads.Ghosts R) (w : writes.Ghosts W) (old : Core D S R W d w) (i : ℕ) (within : i < 64) (l : Label) (p : Path) (at : ℕ) where
   -- the tests are the machine's
-  tests_are : (U : Setup) (V : Whole) (s : Stands o r w U old V) → refusal U V.body (hands_of V (suc i)) (Event.Create l p WriteType.MustCache at) ≡ create_test old.area old.names (here old.workers.items old.hands.items (suc i) l at) p
+  tests_are : (U : Setup) (V : Whole) (s : Stands d o r w U old V) → refusal U V.body (hands_of V (suc i)) (Event.Create l p WriteType.MustCache at) ≡ create_test old.area old.names (here old.workers.items old.hands.items (suc i) l at) p
   tests_are U V s =
       let H = hands_of V (suc i) in
       create_refusal U old.names V.body H l p WriteType.MustCache at s.names
@@ -205,11 +206,11 @@ module _ {S R W : Type 0} (o : objects.Ghosts S R W) (r : reads.Ghosts R) (w : w
       ∙ ap (λ b. create_test old.area old.names (record { taken = has_here old.hands.items (suc i) l; labels = count_here old.hands.items (suc i); worker = at; configured = b; live = is_live V.body at }) p) (configured_is old.workers.items at s.setup)
       ∙ ap (λ b. create_test old.area old.names (record { taken = has_here old.hands.items (suc i) l; labels = count_here old.hands.items (suc i); worker = at; configured = configured_here old.workers.items at; live = b }) p) (live_is old.workers.items V.body s.workers at)
 
-  pub create_refused : (why : Refusal) → Some (Reply.Refused why) ≡ create_test old.area old.names (here old.workers.items old.hands.items (suc i) l at) p → Steps o r w old old (suc i) (Event.Create l p WriteType.MustCache at) (Reply.Refused why)
+  pub create_refused : (why : Refusal) → Some (Reply.Refused why) ≡ create_test old.area old.names (here old.workers.items old.hands.items (suc i) l at) p → Steps d o r w old old (suc i) (Event.Create l p WriteType.MustCache at) (Reply.Refused why)
   create_refused why h = λ U V s. goes_refused o r w U old old V (suc i) (Event.Create l p WriteType.MustCache at) (Reply.Refused why) s (tests_are U V s ∙ sym h) refl refl
 
-  module _ (new : Core S R W w) (b : new.block ≡ old.block) (a : new.area ≡ old.area) (k : new.workers ≡ old.workers) where
-    pub create_short : new.names ≡ old.names → ChangesAt old.hands.items new.hands.items i KeepsHands → Steps o r w old new (suc i) (Event.Create l p WriteType.MustCache at) (Reply.Refused Refusal.Memory)
+  module _ (new : Core D S R W d w) (b : new.block ≡ old.block) (a : new.area ≡ old.area) (k : new.workers ≡ old.workers) where
+    pub create_short : new.names ≡ old.names → ChangesAt old.hands.items new.hands.items i KeepsHands → Steps d o r w old new (suc i) (Event.Create l p WriteType.MustCache at) (Reply.Refused Refusal.Memory)
     create_short n kept = λ U V s. goes_short o r w U old new V (suc i) (Event.Create l p WriteType.MustCache at) (stands_by o r w U new V s.known old.block old.area old.names old.workers.items new.hands.items b a n (ap (λ x. x.items) k) refl (record {
       setup = s.setup;
       named = s.names;
@@ -220,7 +221,7 @@ module _ {S R W : Type 0} (o : objects.Ghosts S R W) (r : reads.Ghosts R) (w : w
     })) refl
 
     pub create_done : 0 < at → create_test old.area old.names (here old.workers.items old.hands.items (suc i) l at) p ≡ None → new.names ≡ with_file p old.names
-        → ChangesAt old.hands.items new.hands.items i (AddsHand l (Hand.Writing (new_writer old.names.next_id at (started_here old.workers.items at) old.block))) → Steps o r w old new (suc i) (Event.Create l p WriteType.MustCache at) Reply.Done
+        → ChangesAt old.hands.items new.hands.items i (AddsHand l (Hand.Writing (new_writer old.names.next_id at (started_here old.workers.items at) old.block))) → Steps d o r w old new (suc i) (Event.Create l p WriteType.MustCache at) Reply.Done
     create_done some passes n added = λ U V s.
         let H = hands_of V (suc i) in
         let B = journal_if (create_change V.body p) V.body in
@@ -257,18 +258,18 @@ module _ {S R W : Type 0} (o : objects.Ghosts S R W) (r : reads.Ghosts R) (w : w
 
 -- ---- for an actor
 
-module _ {S R W : Type 0} (o : objects.Ghosts S R W) (r : reads.Ghosts R) (w : writes.Ghosts W) (old : Core S R W w) (who : ℕ) (actor : is_actor who ≡ true) (l : Label) (p : Path) (at : ℕ) where
+module _ {D S R W : Type 0} {d : disks.Ghosts D} (o : objects.Ghosts S R W) (r : reads.Ghosts R) (w : writes.Ghosts W) (old : Core D S R W d w) (who : ℕ) (actor : is_actor who ≡ true) (l : Label) (p : Path) (at : ℕ) where
   -- what the tests answer, and where an event goes
   abbrev Tested : ℕ → Option Reply → Type 0
   Tested v reply = create_test old.area old.names (here old.workers.items old.hands.items v l at) p ≡ reply
 
-  abbrev Leads : Core S R W w → Reply → ℕ → Type 0
-  Leads new reply v = Steps o r w old new v (Event.Create l p WriteType.MustCache at) reply
+  abbrev Leads : Core D S R W d w → Reply → ℕ → Type 0
+  Leads new reply v = Steps d o r w old new v (Event.Create l p WriteType.MustCache at) reply
 
   pub refused_by : (why : Refusal) → Some (Reply.Refused why) ≡ create_test old.area old.names (here old.workers.items old.hands.items who l at) p → Leads old (Reply.Refused why) who
   refused_by why h = by_actor (λ v. Tested v (Some (Reply.Refused why)) → Leads old (Reply.Refused why) v) (λ i within k. create_refused o r w old i within l p at why (sym k)) who actor (sym h)
 
-  module _ (new : Core S R W w) (b : new.block ≡ old.block) (a : new.area ≡ old.area) (k : new.workers ≡ old.workers) where
+  module _ (new : Core D S R W d w) (b : new.block ≡ old.block) (a : new.area ≡ old.area) (k : new.workers ≡ old.workers) where
     pub short_by : new.names ≡ old.names → ChangesAt old.hands.items new.hands.items (pred who) KeepsHands → Leads new (Reply.Refused Refusal.Memory) who
     short_by n kept = by_actor (λ v. ChangesAt old.hands.items new.hands.items (pred v) KeepsHands → Leads new (Reply.Refused Refusal.Memory) v) (λ i within. create_short o r w old i within l p at new b a k n) who actor kept
 

@@ -24,6 +24,7 @@ use Rattle.fs_model.specs.Faults.{BlockFate, Device, clash, clash_at, waiting_pl
 use Rattle.fs_model.specs.Machine.{refusal, accepted, hands_of, put_back}
 use Rattle.fs_model.specs.Step.{Step}
 use Rattle.inode_tree.specs.Rows.{file_row}
+use Rattle.outside.specs.declared.disk.Disk as disks
 use Rattle.outside.specs.declared.objects.Objects as objects
 use Rattle.outside.specs.declared.objects.ObjectRead as reads
 use Rattle.outside.specs.declared.objects.ObjectWrite as writes
@@ -71,7 +72,7 @@ two_pass None None h = (refl, refl)
 two_pass None (Some x) h = absurd (cc)
 two_pass (Some x) b h = absurd (cc)
 
-module _ {S R W : Type 0} (o : objects.Ghosts S R W) (r : reads.Ghosts R) (w : writes.Ghosts W) (was : Core S R W w) (l : Label) (i : ℕ) (within : i < 64) (x : Writer W) (whole : x.broken ≡ false) (U : Setup) (V : Whole) (s : Stands o r w U was V) (m : machine.Writer) (at : hand_at (hands_of V (suc i)) l ≡ Some (machine.Hand.Writing m)) (f : WriterFits w s.known was.workers.items was.names.next_id was.block (suc i, l) m x) where
+module _ {D S R W : Type 0} {d : disks.Ghosts D} (o : objects.Ghosts S R W) (r : reads.Ghosts R) (w : writes.Ghosts W) (was : Core D S R W d w) (l : Label) (i : ℕ) (within : i < 64) (x : Writer W) (whole : x.broken ≡ false) (U : Setup) (V : Whole) (s : Stands d o r w U was V) (m : machine.Writer) (at : hand_at (hands_of V (suc i)) l ≡ Some (machine.Hand.Writing m)) (f : WriterFits w s.known was.workers.items was.names.next_id was.block (suc i, l) m x) where
   -- the label's writer on the machine's side
   pub unbroken_is : unbroken_at (hands_of V (suc i)) l ≡ Some (machine.Hand.Writing m)
   unbroken_is = ap (option_and_then unbroken) at ∙ ap (λ b. cond b None (Some (machine.Hand.Writing m))) (f.broken ∙ whole)
@@ -92,19 +93,19 @@ module _ {S R W : Type 0} (o : objects.Ghosts S R W) (r : reads.Ghosts R) (w : w
 
   -- ---- nothing happens
 
-  module _ (new : Core S R W w) (rest : KeepsRest was new) (workers : new.workers ≡ was.workers) (hands : ChangesAt was.hands.items new.hands.items i (SetsHand l (Hand.Writing x) (Hand.Writing x))) where
-    still : Stands o r w U new V
+  module _ (new : Core D S R W d w) (rest : KeepsRest was new) (workers : new.workers ≡ was.workers) (hands : ChangesAt was.hands.items new.hands.items i (SetsHand l (Hand.Writing x) (Hand.Writing x))) where
+    still : Stands d o r w U new V
     still = stands_kept o r w U V was new i within rest workers (keeps_same i l (Hand.Writing x) (Hand.Writing x) was.hands.items new.hands.items refl hands) s
 
-    pub done_refused : (why : Refusal) → refusal U V.body (hands_of V (suc i)) (Event.Finish l) ≡ Some (Reply.Refused why) → Goes o r w U was new V (suc i) (Event.Finish l) (Reply.Refused why)
+    pub done_refused : (why : Refusal) → refusal U V.body (hands_of V (suc i)) (Event.Finish l) ≡ Some (Reply.Refused why) → Goes d o r w U was new V (suc i) (Event.Finish l) (Reply.Refused why)
     done_refused why h = goes_refused o r w U was new V (suc i) (Event.Finish l) (Reply.Refused why) still h refl refl
 
-    pub done_short : Goes o r w U was new V (suc i) (Event.Finish l) (Reply.Refused Refusal.Memory)
+    pub done_short : Goes d o r w U was new V (suc i) (Event.Finish l) (Reply.Refused Refusal.Memory)
     done_short = goes_short o r w U was new V (suc i) (Event.Finish l) still refl
 
   -- ---- the tests pass
 
-  module _ (new : Core S R W w) (file : IsSome (file_row was.names.nodes x.file)) (passes : done_test was.area was.names was.workers.items x ≡ None) where
+  module _ (new : Core D S R W d w) (file : IsSome (file_row was.names.nodes x.file)) (passes : done_test was.area was.names was.workers.items x ≡ None) where
     pass : (past Which.Area (is_short was.names was.area 30) ≡ None) × (refuse (Refusal.NoWorker x.worker) (not (runs_here was.workers.items x.worker x.started)) ≡ None)
     pass = two_pass (past Which.Area (is_short was.names was.area 30)) (refuse (Refusal.NoWorker x.worker) (not (runs_here was.workers.items x.worker x.started))) passes
 
@@ -162,7 +163,7 @@ module _ {S R W : Type 0} (o : objects.Ghosts S R W) (r : reads.Ghosts R) (w : w
       files_after = files_done s.known done_known was.names.next_id was.block was.names.nodes V.body.contents s.files m.file m.taken (suc i, l) f.author f.bytes (let q = f.short in omega (arith, q)) f.old
           (λ n. (same_files s.known x.room x.worker n).0) (λ n. ap (cond (nat_eq m.file n) None) (same_files s.known x.room x.worker n).1)
 
-      pub done_goes : new.block ≡ was.block → new.area ≡ was.area → new.names ≡ with_done x.file x.bytes.len was.names → ChangesAt was.hands.items new.hands.items i (EndsHand l (Hand.Writing x)) → Goes o r w U was new V (suc i) (Event.Finish l) Reply.Done
+      pub done_goes : new.block ≡ was.block → new.area ≡ was.area → new.names ≡ with_done x.file x.bytes.len was.names → ChangesAt was.hands.items new.hands.items i (EndsHand l (Hand.Writing x)) → Goes d o r w U was new V (suc i) (Event.Finish l) Reply.Done
       done_goes block area names hands =
           let H = hands_of V (suc i) in
           let A = V.body in
@@ -209,7 +210,7 @@ module _ {S R W : Type 0} (o : objects.Ghosts S R W) (r : reads.Ghosts R) (w : w
           ∙ (λ j. (nat_eq (f.worker j) x.worker && has_room (shut j) && stands j) || (is_store m.store (Device.TiersOf x.worker) && publishes m.kind))
           ∙ ap (λ b. (b && true && true) || (is_store m.store (Device.TiersOf x.worker) && publishes m.kind)) (eq-eqb x.worker x.worker refl)
 
-      pub done_lost : ChangesAt was.hands.items new.hands.items i (SetsHand l (Hand.Writing x) (Hand.Writing (closed_writer true x))) → Goes o r w U was new V (suc i) (Event.Finish l) (Reply.Refused (Refusal.TierFault x.worker))
+      pub done_lost : ChangesAt was.hands.items new.hands.items i (SetsHand l (Hand.Writing x) (Hand.Writing (closed_writer true x))) → Goes d o r w U was new V (suc i) (Event.Finish l) (Reply.Refused (Refusal.TierFault x.worker))
       done_lost hands =
           let H = hands_of V (suc i) in
           let A = V.body in

@@ -13,6 +13,7 @@ use Rattle.fs_model.specs.Lookups.{hand_at}
 use Rattle.fs_model.specs.BytesEvents.{unbroken, bad_label, finish_refusal_of}
 use Rattle.fs_model.specs.Machine.{refusal, hands_of}
 use Rattle.inode_tree.specs.Rows.{file_row}
+use Rattle.outside.specs.declared.disk.Disk as disks
 use Rattle.outside.specs.declared.objects.Objects as objects
 use Rattle.outside.specs.declared.objects.ObjectRead as reads
 use Rattle.outside.specs.declared.objects.ObjectWrite as writes
@@ -51,62 +52,62 @@ some_room (Some n) is = (n, refl)
 
 -- ---- the writer is put back
 
-module _ {S R W : Type 0} (o : objects.Ghosts S R W) (r : reads.Ghosts R) (w : writes.Ghosts W) (now new : Core S R W w) (l : Label) (who : ℕ) (actor : is_actor who ≡ true) (x y : Writer W) (rest : KeepsRest now new) (put : ChangesAt now.hands.items new.hands.items (pred who) (AddsHand l (Hand.Writing y))) (workers : new.workers ≡ now.workers) (same : y ≡ x) where
-  pub ends_absent : file_row now.names.nodes x.file ≡ None → StepsFrom o r w now new who l x (Event.Finish l) (Reply.Refused Refusal.NotFound)
+module _ {D S R W : Type 0} {d : disks.Ghosts D} (o : objects.Ghosts S R W) (r : reads.Ghosts R) (w : writes.Ghosts W) (now new : Core D S R W d w) (l : Label) (who : ℕ) (actor : is_actor who ≡ true) (x y : Writer W) (rest : KeepsRest now new) (put : ChangesAt now.hands.items new.hands.items (pred who) (AddsHand l (Hand.Writing y))) (workers : new.workers ≡ now.workers) (same : y ≡ x) where
+  pub ends_absent : file_row now.names.nodes x.file ≡ None → StepsFrom d o r w now new who l x (Event.Finish l) (Reply.Refused Refusal.NotFound)
   unfolding Continues
   ends_absent none = ends o r w now new l who actor x y rest put (Event.Finish l) (Reply.Refused Refusal.NotFound) (λ was i within all nodes names block area whole sets U V s.
       let mine = subst (λ z. ChangesAt was.hands.items new.hands.items i (SetsHand l (Hand.Writing x) (Hand.Writing z))) same sets in
-      with_writer o r w was new l i within x x mine U V s (Goes o r w U was new V (suc i) (Event.Finish l) (Reply.Refused Refusal.NotFound)) (λ m at f.
+      with_writer o r w was new l i within x x mine U V s (Goes d o r w U was new V (suc i) (Event.Finish l) (Reply.Refused Refusal.NotFound)) (λ m at f.
       done_refused o r w was l i within x whole U V s m at f new all (workers ∙ nodes) mine Refusal.NotFound (not_found o r w was l i within x whole U V s m at f (subst (λ k. file_row k.nodes x.file ≡ None) names none))))
 
-  pub ends_refused : (why : Refusal) → IsSome (file_row now.names.nodes x.file) → Some (Reply.Refused why) ≡ done_test now.area now.names now.workers.items x → StepsFrom o r w now new who l x (Event.Finish l) (Reply.Refused why)
+  pub ends_refused : (why : Refusal) → IsSome (file_row now.names.nodes x.file) → Some (Reply.Refused why) ≡ done_test now.area now.names now.workers.items x → StepsFrom d o r w now new who l x (Event.Finish l) (Reply.Refused why)
   unfolding Continues
   ends_refused why there h = ends o r w now new l who actor x y rest put (Event.Finish l) (Reply.Refused why) (λ was i within all nodes names block area whole sets U V s.
       let mine = subst (λ z. ChangesAt was.hands.items new.hands.items i (SetsHand l (Hand.Writing x) (Hand.Writing z))) same sets in
-      with_writer o r w was new l i within x x mine U V s (Goes o r w U was new V (suc i) (Event.Finish l) (Reply.Refused why)) (λ m at f.
+      with_writer o r w was new l i within x x mine U V s (Goes d o r w U was new V (suc i) (Event.Finish l) (Reply.Refused why)) (λ m at f.
       done_refused o r w was l i within x whole U V s m at f new all (workers ∙ nodes) mine why (tested o r w was l i within x whole U V s m at f (subst (λ k. IsSome (file_row k.nodes x.file)) names there) ∙ sym (h ∙ (λ j. done_test (area j) (names j) ((nodes j).items) x)))))
 
-  pub ends_short : StepsFrom o r w now new who l x (Event.Finish l) (Reply.Refused Refusal.Memory)
+  pub ends_short : StepsFrom d o r w now new who l x (Event.Finish l) (Reply.Refused Refusal.Memory)
   unfolding Continues
   ends_short = ends o r w now new l who actor x y rest put (Event.Finish l) (Reply.Refused Refusal.Memory) (λ was i within all nodes names block area whole sets U V s.
       let mine = subst (λ z. ChangesAt was.hands.items new.hands.items i (SetsHand l (Hand.Writing x) (Hand.Writing z))) same sets in
-      with_writer o r w was new l i within x x mine U V s (Goes o r w U was new V (suc i) (Event.Finish l) (Reply.Refused Refusal.Memory)) (λ m at f. done_short o r w was l i within x whole U V s m at f new all (workers ∙ nodes) mine))
+      with_writer o r w was new l i within x x mine U V s (Goes d o r w U was new V (suc i) (Event.Finish l) (Reply.Refused Refusal.Memory)) (λ m at f. done_short o r w was l i within x whole U V s m at f new all (workers ∙ nodes) mine))
 
 -- ---- behind the commit
 
-module _ {S R W : Type 0} (o : objects.Ghosts S R W) (r : reads.Ghosts R) (w : writes.Ghosts W) (now mid new : Core S R W w) (l : Label) (who : ℕ) (actor : is_actor who ≡ true) (x : Writer W) (rest : KeepsRest now mid) (hands : mid.hands ≡ now.hands) where
+module _ {D S R W : Type 0} {d : disks.Ghosts D} (o : objects.Ghosts S R W) (r : reads.Ghosts R) (w : writes.Ghosts W) (now mid new : Core D S R W d w) (l : Label) (who : ℕ) (actor : is_actor who ≡ true) (x : Writer W) (rest : KeepsRest now mid) (hands : mid.hands ≡ now.hands) where
   module _ (y : Writer W) (after : KeepsRest mid new) (workers : new.workers ≡ mid.workers) (put : ChangesAt mid.hands.items new.hands.items (pred who) (AddsHand l (Hand.Writing y))) where
     puts : ChangesAt now.hands.items new.hands.items (pred who) (AddsHand l (Hand.Writing y))
     puts = subst (λ z. ChangesAt z.items new.hands.items (pred who) (AddsHand l (Hand.Writing y))) hands put
 
-    pub after_short : mid.workers ≡ now.workers → y ≡ x → StepsFrom o r w now new who l x (Event.Finish l) (Reply.Refused Refusal.Memory)
+    pub after_short : mid.workers ≡ now.workers → y ≡ x → StepsFrom d o r w now new who l x (Event.Finish l) (Reply.Refused Refusal.Memory)
     after_short kept same = ends_short o r w now new l who actor x y (kept_twice now mid new rest after) puts (workers ∙ kept) same
 
-    pub after_lost : IsSome (file_row now.names.nodes x.file) → None ≡ done_test now.area now.names now.workers.items x → (x.room ≡ None → ⊥) → IfSome x.room (λ n. IfSome (block_writer x.bytes) (λ pen. ChangesAt now.workers.items mid.workers.items (pred x.worker) (Loses o w n (key_at now.workers.items x.worker n) pen (finished_of now.names.nodes now.block x)))) → y ≡ closed_writer true x → StepsFrom o r w now new who l x (Event.Finish l) (Reply.Refused (Refusal.TierFault x.worker))
+    pub after_lost : IsSome (file_row now.names.nodes x.file) → None ≡ done_test now.area now.names now.workers.items x → (x.room ≡ None → ⊥) → IfSome x.room (λ n. IfSome (block_writer x.bytes) (λ pen. ChangesAt now.workers.items mid.workers.items (pred x.worker) (Loses o w n (key_at now.workers.items x.worker n) pen (finished_of now.names.nodes now.block x)))) → y ≡ closed_writer true x → StepsFrom d o r w now new who l x (Event.Finish l) (Reply.Refused (Refusal.TierFault x.worker))
     unfolding Continues
     after_lost there h some lost same = ends o r w now new l who actor x y (kept_twice now mid new rest after) puts (Event.Finish l) (Reply.Refused (Refusal.TierFault x.worker)) (λ was i within all nodes names block area whole sets U V s.
         let mine = subst (λ z. ChangesAt was.hands.items new.hands.items i (SetsHand l (Hand.Writing x) (Hand.Writing z))) same sets in
         let room = some_room x.room some in
-        with_writer o r w was new l i within x (closed_writer true x) mine U V s (Goes o r w U was new V (suc i) (Event.Finish l) (Reply.Refused (Refusal.TierFault x.worker))) (λ m at f.
+        with_writer o r w was new l i within x (closed_writer true x) mine U V s (Goes d o r w U was new V (suc i) (Event.Finish l) (Reply.Refused (Refusal.TierFault x.worker))) (λ m at f.
         done_lost o r w was l i within x whole U V s m at f new (subst (λ k. IsSome (file_row k.nodes x.file)) names there) (sym (h ∙ (λ j. done_test (area j) (names j) ((nodes j).items) x))) room.0 room.1
         (λ pen takes. subst (λ v. ChangesAt was.workers.items v.items (pred x.worker) (Loses o w room.0 (key_at was.workers.items x.worker room.0) pen (finished_of was.names.nodes was.block x))) (sym workers) (block_said x (λ n p ns rows bs. ChangesAt ns mid.workers.items (pred x.worker) (Loses o w n (key_at ns x.worker n) p (finished_of rows bs x))) now.workers.items was.workers.items now.names.nodes was.names.nodes now.block was.block (ap (λ k. k.items) nodes) (ap (λ k. k.nodes) names) block lost room.0 pen room.1 takes)) all mine))
 
   -- the file is done, and the label ended
   module _ (id len : ℕ) (is : id ≡ x.file) (count : len ≡ x.bytes.len) (named : new.names ≡ with_done id len mid.names) (sized : new.block ≡ mid.block) (spaced : new.area ≡ mid.area) (workers : new.workers ≡ mid.workers) (held : new.hands ≡ mid.hands) (there : IsSome (file_row now.names.nodes x.file)) (h : None ≡ done_test now.area now.names now.workers.items x)
       (done : IfSome x.room (λ n. IfSome (block_writer x.bytes) (λ pen. ChangesAt now.workers.items mid.workers.items (pred x.worker) (Commits o w n (key_at now.workers.items x.worker n) pen (finished_of now.names.nodes now.block x))))) (kept : x.room ≡ None → mid.workers ≡ now.workers) where
-    by_kind : (was : Core S R W w) (i : ℕ) (U : Setup) (V : Whole) (s : Stands o r w U was V) (Q : Type 0) → ((m : machine.Writer) → hand_at (hands_of V (suc i)) l ≡ Some (machine.Hand.Writing m) → WriterFits w s.known was.workers.items was.names.next_id was.block (suc i, l) m x → Q)
+    by_kind : (was : Core D S R W d w) (i : ℕ) (U : Setup) (V : Whole) (s : Stands d o r w U was V) (Q : Type 0) → ((m : machine.Writer) → hand_at (hands_of V (suc i)) l ≡ Some (machine.Hand.Writing m) → WriterFits w s.known was.workers.items was.names.next_id was.block (suc i, l) m x → Q)
         → (k : machine.Hand) → hand_at (hands_of V (suc i)) l ≡ Some k → Fits r w s.known was.workers.items was.names.next_id was.block (suc i, l) k (Hand.Writing x) → Q
     by_kind was i U V s Q go (machine.Hand.Reading k) at fits = absurd fits
     by_kind was i U V s Q go (machine.Hand.Writing k) at fits = go k at fits
     by_kind was i U V s Q go (machine.Hand.Moving k) at fits = absurd fits
     by_kind was i U V s Q go (machine.Hand.Storing k) at fits = absurd fits
 
-    pub after_done : StepsFrom o r w now new who l x (Event.Finish l) Reply.Done
+    pub after_done : StepsFrom d o r w now new who l x (Event.Finish l) Reply.Done
     after_done was took U V s =
-        by_actor (λ a. ChangesAt was.hands.items new.hands.items (pred a) (EndsHand l (Hand.Writing x)) → Goes o r w U was new V a (Event.Finish l) Reply.Done)
+        by_actor (λ a. ChangesAt was.hands.items new.hands.items (pred a) (EndsHand l (Hand.Writing x)) → Goes d o r w U was new V a (Event.Finish l) Reply.Done)
         (λ i within ended.
         let found = fits_at r w s.known was.workers.items was.names.next_id was.block V.hands was.hands.items s.hands i within l (Hand.Writing x) (end_there i l (Hand.Writing x) was.hands.items new.hands.items ended) in
-        by_kind was i U V s (Goes o r w U was new V (suc i) (Event.Finish l) Reply.Done) (λ m at f.
+        by_kind was i U V s (Goes d o r w U was new V (suc i) (Event.Finish l) Reply.Done) (λ m at f.
         done_goes o r w was l i within x took.unbroken U V s m at f new (subst (λ k. IsSome (file_row k.nodes x.file)) took.rest.names there) (sym (h ∙ (λ j. done_test (took.rest.area j) (took.rest.names j) ((took.workers j).items) x)))
         (λ n pen reserved takes. subst (λ v. ChangesAt was.workers.items v.items (pred x.worker) (Commits o w n (key_at was.workers.items x.worker n) pen (finished_of was.names.nodes was.block x))) (sym workers) (block_said x (λ k p ns rows bs. ChangesAt ns mid.workers.items (pred x.worker) (Commits o w k (key_at ns x.worker k) p (finished_of rows bs x))) now.workers.items was.workers.items now.names.nodes was.names.nodes now.block was.block (ap (λ k. k.items) took.workers) (ap (λ k. k.nodes) took.rest.names) took.rest.block done n pen reserved takes))
         (λ none. ap (λ k. k.items) (workers ∙ kept none ∙ took.workers))
@@ -118,9 +119,9 @@ module _ {S R W : Type 0} (o : objects.Ghosts S R W) (r : reads.Ghosts R) (w : w
 
 -- ---- no unbroken writer is there
 
-module _ {S R W : Type 0} (o : objects.Ghosts S R W) (r : reads.Ghosts R) (w : writes.Ghosts W) (was new : Core S R W w) (l : Label) where
+module _ {D S R W : Type 0} {d : disks.Ghosts D} (o : objects.Ghosts S R W) (r : reads.Ghosts R) (w : writes.Ghosts W) (was new : Core D S R W d w) (l : Label) where
   -- the machine refuses it too
-  is_bad : (i : ℕ) → i < 64 → (U : Setup) (V : Whole) (s : Stands o r w U was V) → (q : Option (Hand R W)) → IsSomeAnd (slice_get was.hands.items i) (λ k. hand_in k l ≡ q) → IsNoWriter q → refusal U V.body (hands_of V (suc i)) (Event.Finish l) ≡ bad_label
+  is_bad : (i : ℕ) → i < 64 → (U : Setup) (V : Whole) (s : Stands d o r w U was V) → (q : Option (Hand R W)) → IsSomeAnd (slice_get was.hands.items i) (λ k. hand_in k l ≡ q) → IsNoWriter q → refusal U V.body (hands_of V (suc i)) (Event.Finish l) ≡ bad_label
   is_bad i within U V s None at none = ap (λ h. elim (option_and_then unbroken h) as (λ t. Option Reply) [ None ↦ bad_label | Some k ↦ finish_refusal_of U V.body k ]) (absent_at r w s.known was.workers.items was.names.next_id was.block V.hands was.hands.items s.hands i within l at)
   is_bad i within U V s (Some (Hand.Reading x)) at none =
       let found = fits_at r w s.known was.workers.items was.names.next_id was.block V.hands was.hands.items s.hands i within l (Hand.Reading x) at in
@@ -145,7 +146,7 @@ module _ {S R W : Type 0} (o : objects.Ghosts S R W) (r : reads.Ghosts R) (w : w
   looked_up None h = absurd h
   looked_up (Some k) h = (hand_in k l, refl, h)
 
-  pub done_bad : (who : ℕ) → is_actor who ≡ true → KeepsRest was new → new.workers ≡ was.workers → ChangesAt was.hands.items new.hands.items (pred who) KeepsHands → IsSomeAnd (slice_get was.hands.items (pred who)) (λ k. IsNoWriter (hand_in k l)) → Steps o r w was new who (Event.Finish l) (Reply.Refused Refusal.BadLabel)
-  done_bad who actor rest workers kept none U V s = by_actor (λ a. ChangesAt was.hands.items new.hands.items (pred a) KeepsHands → IsSomeAnd (slice_get was.hands.items (pred a)) (λ k. IsNoWriter (hand_in k l)) → Goes o r w U was new V a (Event.Finish l) (Reply.Refused Refusal.BadLabel)) (λ i within keeps gone.
+  pub done_bad : (who : ℕ) → is_actor who ≡ true → KeepsRest was new → new.workers ≡ was.workers → ChangesAt was.hands.items new.hands.items (pred who) KeepsHands → IsSomeAnd (slice_get was.hands.items (pred who)) (λ k. IsNoWriter (hand_in k l)) → Steps d o r w was new who (Event.Finish l) (Reply.Refused Refusal.BadLabel)
+  done_bad who actor rest workers kept none U V s = by_actor (λ a. ChangesAt was.hands.items new.hands.items (pred a) KeepsHands → IsSomeAnd (slice_get was.hands.items (pred a)) (λ k. IsNoWriter (hand_in k l)) → Goes d o r w U was new V a (Event.Finish l) (Reply.Refused Refusal.BadLabel)) (λ i within keeps gone.
       let q = looked_up (slice_get was.hands.items i) gone in
       goes_refused o r w U was new V (suc i) (Event.Finish l) (Reply.Refused Refusal.BadLabel) (stands_kept o r w U V was new i within rest workers keeps s) (is_bad i within U V s q.0 q.1 q.2) refl refl) who actor kept none

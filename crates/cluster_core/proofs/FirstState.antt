@@ -12,6 +12,7 @@ use Rattle.fs_model.specs.Lookups.{no_worker, unregistered}
 use Rattle.fs_model.specs.Words.{update_at}
 use Rattle.fs_model.specs.Begins.{Begins}
 use Rattle.outside.specs.Contents.{Contents}
+use Rattle.outside.specs.declared.disk.Disk as disks
 use Rattle.outside.specs.declared.objects.Objects as objects
 use Rattle.outside.specs.declared.objects.ObjectRead as reads
 use Rattle.outside.specs.declared.objects.ObjectWrite as writes
@@ -129,7 +130,7 @@ module _ {S R W : Type 0} (o : objects.Ghosts S R W) (r : reads.Ghosts R) (w : w
   tells_all : (s : S) → IsEmptyTier o s → TierTells o s
   tells_all s h = weaker (λ (m : Contents). (key : List (List ℕ)) → m key ≡ None) (λ (m : Contents). (key : List (List ℕ)) → IsSome (m key) → length key ≡ 2) (o.told s) (λ m none key some. let no : false ≡ true = subst IsSome (none key) some in absurd (cc)) h
 
-  nodes_stand : (m : Media S) (nodes : List (Node S)) → map (λ n. n.book) nodes ≡ map fresh_book U.tiers → map (λ n. n.tiers) nodes ≡ m.tiers.items → TiersEmpty o m → NodesStand o nothing 1 U.block nodes
+  nodes_stand : {D : Type 0} (m : Media D S) (nodes : List (Node S)) → map (λ n. n.book) nodes ≡ map fresh_book U.tiers → map (λ n. n.tiers) nodes ≡ m.tiers.items → TiersEmpty o m → NodesStand o nothing 1 U.block nodes
   nodes_stand m nodes books tiers empty i node at =
       let begun : IsFresh node.book = all_got IsFresh (map fresh_book U.tiers) i node.book (books_fresh U.tiers) (ap (λ l. slice_get l i) (sym books) ∙ slice_get-map (λ (n : Node S). n.book) nodes i ∙ ap (option_map (λ (n : Node S). n.book)) at) in
       let bare : All (IsEmptyTier o) node.tiers.items = all_got (λ (v : Vec S). All (IsEmptyTier o) v.items) m.tiers.items i node.tiers empty (ap (λ l. slice_get l i) (sym tiers) ∙ slice_get-map (λ (n : Node S). n.tiers) nodes i ∙ ap (option_map (λ (n : Node S). n.tiers)) at) in
@@ -141,16 +142,17 @@ module _ {S R W : Type 0} (o : objects.Ghosts S R W) (r : reads.Ghosts R) (w : w
         fresh = λ k late. refl;
       }
 
+module _ {D S R W : Type 0} {d : disks.Ghosts D} (o : objects.Ghosts S R W) (r : reads.Ghosts R) (w : writes.Ghosts W) (U : Setup) (V : Whole) (b : Begins U V) where
   -- the core stands for the state
-  pub begin_stands : (m : Media S) (C : Core S R W w) → C.block ≡ U.block → C.area ≡ U.area → C.names ≡ first_names U
+  pub begin_stands : (m : Media D S) (C : Core D S R W d w) → C.block ≡ U.block → C.area ≡ U.area → C.names ≡ first_names U
       → map (λ n. n.book) C.workers.items ≡ map fresh_book U.tiers → map node_row C.workers.items ≡ first_runs (map idle_row (map fresh_book U.tiers)) → map (λ n. n.tiers) C.workers.items ≡ m.tiers.items
-      → length C.hands.items ≡ 64 → All HasNone C.hands.items → TiersEmpty o m → Stands o r w U C V
+      → length C.hands.items ≡ 64 → All HasNone C.hands.items → TiersEmpty o m → Stands d o r w U C V
   begin_stands m C block area names books rows tiers actors none empty =
       stands_by o r w U C V nothing U.block U.area (first_names U) C.workers.items C.hands.items block area names refl refl (record {
         setup = record { block = refl; area = refl; tiers = sym (map-id U.tiers) ∙ sym (maps_twice (λ (x : BookView). x.sizes) fresh_book U.tiers) ∙ ap (map (λ (x : BookView). x.sizes)) (sym books) ∙ maps_twice (λ (x : BookView). x.sizes) (λ (n : Node S). n.book) C.workers.items };
         named = first_stands U V b;
-        workers = workers_stand C.workers.items rows;
-        hands = hands_stand C.workers.items C.hands.items actors none;
-        files = files_stand;
-        objects = nodes_stand m C.workers.items books tiers empty;
+        workers = workers_stand o r w U V b C.workers.items rows;
+        hands = hands_stand o r w U V b C.workers.items C.hands.items actors none;
+        files = files_stand o r w U V b;
+        objects = nodes_stand o r w U V b m C.workers.items books tiers empty;
       })

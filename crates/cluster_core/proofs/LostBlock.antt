@@ -6,6 +6,7 @@ use Rattle.fs_model.specs.declared.label.Label.{Label}
 use Rattle.fs_model.specs.State as machine
 use Rattle.fs_model.specs.State.{State, Whole, Hands, Worker, OpenBlock, RoomRow}
 use Rattle.fs_model.specs.BytesOutcomes.{room_to_litter}
+use Rattle.outside.specs.declared.disk.Disk as disks
 use Rattle.outside.specs.declared.objects.Objects as objects
 use Rattle.outside.specs.declared.objects.ObjectRead as reads
 use Rattle.outside.specs.declared.objects.ObjectWrite as writes
@@ -43,7 +44,7 @@ use Rattle.std.specs.Prelude.{IsSome}
 use Rattle.inode_tree.specs.Rows.{file_row}
 use Rattle.fs_model.specs.BytesEvents.{writer_stands}
 
-module _ {S R W : Type 0} (o : objects.Ghosts S R W) (r : reads.Ghosts R) (w : writes.Ghosts W) (was new : Core S R W w) (l : Label) (i : ℕ) (x : Writer W) (whole : x.broken ≡ false) (U : Setup) (V : Whole) (s : Stands o r w U was V) (m : machine.Writer) (f : WriterFits w s.known was.workers.items was.names.next_id was.block (suc i, l) m x) (stands : writer_stands V.body m ≡ true) (runs : runs_here was.workers.items x.worker x.started ≡ true) (file : IsSome (file_row was.names.nodes x.file)) where
+module _ {D S R W : Type 0} {d : disks.Ghosts D} (o : objects.Ghosts S R W) (r : reads.Ghosts R) (w : writes.Ghosts W) (was new : Core D S R W d w) (l : Label) (i : ℕ) (x : Writer W) (whole : x.broken ≡ false) (U : Setup) (V : Whole) (s : Stands d o r w U was V) (m : machine.Writer) (f : WriterFits w s.known was.workers.items was.names.next_id was.block (suc i, l) m x) (stands : writer_stands V.body m ≡ true) (runs : runs_here was.workers.items x.worker x.started ≡ true) (file : IsSome (file_row was.names.nodes x.file)) where
   at_place : x.worker ≡ suc (pred x.worker)
   at_place = behind x.worker f.placed
 

@@ -4,6 +4,7 @@ use Rattle.std.specs.Prelude.{◌⊎◌, IsSomeAnd, slice_get}
 use Rattle.std.proofs.lemmas.Bool.{cases_eq}
 use Rattle.std.proofs.lemmas.Option.{same_Some, slice_get_within, slice_get-get_or}
 use Rattle.fs_model.specs.State.{NodeRow}
+use Rattle.outside.specs.declared.disk.Disk as disks
 use Rattle.outside.specs.declared.objects.Objects as objects
 use Rattle.outside.specs.declared.objects.ObjectRead as reads
 use Rattle.outside.specs.declared.objects.ObjectWrite as writes
@@ -153,55 +154,55 @@ module _ {S R W : Type 0} (o : objects.Ghosts S R W) where
 
   -- ---- cores
 
-  module _ {w : writes.Ghosts W} where
-    -- neither stores nor workers changed
-    pub media_same : {old new : Core S R W w} → new.stores ≡ old.stores → new.workers ≡ old.workers → MediaStays o old new
-    media_same stores workers = record { stores = stores; workers = nodes_same (ap (λ v. v.items) workers) }
+  module _ {D : Type 0} {d : disks.Ghosts D} {w : writes.Ghosts W} where
+    -- neither areas nor stores nor workers changed
+    pub media_same : {old new : Core D S R W d w} → new.areas ≡ old.areas → new.stores ≡ old.stores → new.workers ≡ old.workers → MediaStays d o old new
+    media_same areas stores workers = record { areas = areas; stores = stores; workers = nodes_same (ap (λ v. v.items) workers) }
 
-    pub media_kept : {old new : Core S R W w} → KeepsRest old new → new.workers ≡ old.workers → MediaStays o old new
-    media_kept rest workers = media_same rest.stores workers
+    pub media_kept : {old new : Core D S R W d w} → KeepsRest old new → new.workers ≡ old.workers → MediaStays d o old new
+    media_kept rest workers = media_same rest.areas rest.stores workers
 
     -- one call after another
-    pub media_then : {a b c : Core S R W w} → MediaStays o a b → MediaStays o b c → MediaStays o a c
-    media_then one two = record { stores = two.stores ∙ one.stores; workers = nodes_then one.workers two.workers }
+    pub media_then : {a b c : Core D S R W d w} → MediaStays d o a b → MediaStays d o b c → MediaStays d o a c
+    media_then one two = record { areas = two.areas ∙ one.areas; stores = two.stores ∙ one.stores; workers = nodes_then one.workers two.workers }
 
     -- one worker changed
-    media_by : {old new : Core S R W w} {i : ℕ} {P : Node S → Node S → Type 0} → KeepsRest old new → ChangesAt old.workers.items new.workers.items i P → ((n m : Node S) → P n m → TiersStay o n m) → MediaStays o old new
-    media_by rest change gives = record { stores = rest.stores; workers = nodes_at change gives }
+    media_by : {old new : Core D S R W d w} {i : ℕ} {P : Node S → Node S → Type 0} → KeepsRest old new → ChangesAt old.workers.items new.workers.items i P → ((n m : Node S) → P n m → TiersStay o n m) → MediaStays d o old new
+    media_by rest change gives = record { areas = rest.areas; stores = rest.stores; workers = nodes_at change gives }
 
     -- a worker made a reservation
-    pub media_opened : {old new : Core S R W w} (i len : ℕ) (room : Option ℕ) → KeepsRest old new → IsSomeAnd room (λ n. ChangesAt old.workers.items new.workers.items i (Spaces o n len)) → MediaStays o old new
+    pub media_opened : {old new : Core D S R W d w} (i len : ℕ) (room : Option ℕ) → KeepsRest old new → IsSomeAnd room (λ n. ChangesAt old.workers.items new.workers.items i (Spaces o n len)) → MediaStays d o old new
     media_opened i len room rest h = let found = there room h in media_by rest found.1 (spaces_stay found.0 len)
 
     -- a worker had no room
-    pub media_full : {old new : Core S R W w} {i : ℕ} (len : ℕ) → KeepsRest old new → ChangesAt old.workers.items new.workers.items i (IsFull o len) → MediaStays o old new
+    pub media_full : {old new : Core D S R W d w} {i : ℕ} (len : ℕ) → KeepsRest old new → ChangesAt old.workers.items new.workers.items i (IsFull o len) → MediaStays d o old new
     media_full len rest change = media_by rest change (full_stay len)
 
     -- a worker failed to make a reservation
-    pub media_failed : {old new : Core S R W w} {i : ℕ} (len : ℕ) → KeepsRest old new → ChangesAt old.workers.items new.workers.items i (FailsNode o len) → MediaStays o old new
+    pub media_failed : {old new : Core D S R W d w} {i : ℕ} (len : ℕ) → KeepsRest old new → ChangesAt old.workers.items new.workers.items i (FailsNode o len) → MediaStays d o old new
     media_failed len rest change = media_by rest change (λ n m h. keeps_stay len n m h.0)
 
     -- memory was short for a reservation
-    pub media_short : {old new : Core S R W w} (i len : ℕ) → KeepsRest old new → (new.workers ≡ old.workers) ⊎ ChangesAt old.workers.items new.workers.items i (KeepsNode o len) → MediaStays o old new
+    pub media_short : {old new : Core D S R W d w} (i len : ℕ) → KeepsRest old new → (new.workers ≡ old.workers) ⊎ ChangesAt old.workers.items new.workers.items i (KeepsNode o len) → MediaStays d o old new
     media_short i len rest (inl same) = media_kept rest same
     media_short i len rest (inr change) = media_by rest change (keeps_stay len)
 
     -- a hand's reservation was freed, if it had one
-    pub media_freed : {old new : Core S R W w} (h : Hand R W) → KeepsRest old new
+    pub media_freed : {old new : Core D S R W d w} (h : Hand R W) → KeepsRest old new
         → ((worker started room : ℕ) → room_in h ≡ Some (worker, started, room) → runs_here old.workers.items worker started ≡ true → ChangesAt old.workers.items new.workers.items (pred worker) (FreesRoom room))
         → ((worker started room : ℕ) → room_in h ≡ Some (worker, started, room) → runs_here old.workers.items worker started ≡ false → new.workers ≡ old.workers)
         → (room_in h ≡ None → new.workers ≡ old.workers)
-        → MediaStays o old new
+        → MediaStays d o old new
     media_freed {old} {new} h rest freed stopped none = by_room (room_in h) refl
       where
-        by_room : (x : Option (ℕ × ℕ × ℕ)) → room_in h ≡ x → MediaStays o old new
+        by_room : (x : Option (ℕ × ℕ × ℕ)) → room_in h ≡ x → MediaStays d o old new
         by_room None is = media_kept rest (none is)
-        by_room (Some (v, started, room)) is = elim (runs_here old.workers.items v started) as (λ b. runs_here old.workers.items v started ≡ b → MediaStays o old new) [
+        by_room (Some (v, started, room)) is = elim (runs_here old.workers.items v started) as (λ b. runs_here old.workers.items v started ≡ b → MediaStays d o old new) [
           | true ↦ λ runs. media_by rest (freed v started room is runs) (λ n m f. tiers_same f.1)
           | false ↦ λ stands. media_kept rest (stopped v started room is stands)
         ] refl
 
     module _ (r : reads.Ghosts R) where
       -- a source was sought
-      pub media_sought : {old new : Core S R W w} (rows : List NodeRow) (bs : ℕ) (h k : Hand R W) (gave : Found) → KeepsRest old new → HandSeeks o r rows bs old.workers.items new.workers.items h k gave → MediaStays o old new
-      media_sought {old} {new} rows bs h k gave rest found = record { stores = rest.stores; workers = hand_stays r rows bs old.workers.items new.workers.items h k gave found }
+      pub media_sought : {old new : Core D S R W d w} (rows : List NodeRow) (bs : ℕ) (h k : Hand R W) (gave : Found) → KeepsRest old new → HandSeeks o r rows bs old.workers.items new.workers.items h k gave → MediaStays d o old new
+      media_sought {old} {new} rows bs h k gave rest found = record { areas = rest.areas; stores = rest.stores; workers = hand_stays r rows bs old.workers.items new.workers.items h k gave found }

@@ -21,6 +21,7 @@ use Rattle.fs_model.specs.Machine.{accepted, hands_of, put_back}
 use Rattle.fs_model.specs.Step.{Step}
 use Rattle.inode_tree.specs.declared.row.Row.{Row}
 use Rattle.inode_tree.specs.Rows.{node_of, node_if, file_in_row}
+use Rattle.outside.specs.declared.disk.Disk as disks
 use Rattle.outside.specs.declared.objects.Objects as objects
 use Rattle.outside.specs.declared.objects.ObjectRead as reads
 use Rattle.outside.specs.declared.objects.ObjectWrite as writes
@@ -40,16 +41,16 @@ pub file_anywhere : (K : Knowledge) (contents : List Content) (next bs : ℕ) (p
 file_anywhere K contents next bs p q Node.Directory f = f
 file_anywhere K contents next bs p q (Node.IsFile g) f = f
 
-module _ {S R W : Type 0} (o : objects.Ghosts S R W) (r : reads.Ghosts R) (w : writes.Ghosts W) (old : Core S R W w) (who : ℕ) (p : Path) where
+module _ {D S R W : Type 0} {d : disks.Ghosts D} (o : objects.Ghosts S R W) (r : reads.Ghosts R) (w : writes.Ghosts W) (old : Core D S R W d w) (who : ℕ) (p : Path) where
   -- ---- mkdir
 
-  pub mkdir_refused : (why : Refusal) → Some (Reply.Refused why) ≡ mkdir_test old.area old.names p → Steps o r w old old who (Event.Mkdir p) (Reply.Refused why)
+  pub mkdir_refused : (why : Refusal) → Some (Reply.Refused why) ≡ mkdir_test old.area old.names p → Steps d o r w old old who (Event.Mkdir p) (Reply.Refused why)
   mkdir_refused why h = λ U V s. goes_refused o r w U old old V who (Event.Mkdir p) (Reply.Refused why) s (mkdir_refusal U old.names V.body (hands_of V who) p s.names ∙ ap (λ n. mkdir_test n old.names p) s.setup.area ∙ sym h) refl refl
 
-  pub mkdir_short : (new : Core S R W w) → new.block ≡ old.block → new.area ≡ old.area → new.names ≡ old.names → new.workers ≡ old.workers → new.hands ≡ old.hands → Steps o r w old new who (Event.Mkdir p) (Reply.Refused Refusal.Memory)
+  pub mkdir_short : (new : Core D S R W d w) → new.block ≡ old.block → new.area ≡ old.area → new.names ≡ old.names → new.workers ≡ old.workers → new.hands ≡ old.hands → Steps d o r w old new who (Event.Mkdir p) (Reply.Refused Refusal.Memory)
   mkdir_short new b a n k l = λ U V s. goes_short o r w U old new V who (Event.Mkdir p) (stands_by o r w U new V s.known old.block old.area old.names old.workers.items old.hands.items b a n (ap (λ x. x.items) k) (ap (λ x. x.items) l) (record { setup = s.setup; named = s.names; workers = s.workers; hands = s.hands; files = s.files; objects = s.objects })) refl
 
-  pub mkdir_done : (new : Core S R W w) → mkdir_test old.area old.names p ≡ None → new.block ≡ old.block → new.area ≡ old.area → new.names ≡ with_directory p old.names → new.workers ≡ old.workers → new.hands ≡ old.hands → Steps o r w old new who (Event.Mkdir p) Reply.Done
+  pub mkdir_done : (new : Core D S R W d w) → mkdir_test old.area old.names p ≡ None → new.block ≡ old.block → new.area ≡ old.area → new.names ≡ with_directory p old.names → new.workers ≡ old.workers → new.hands ≡ old.hands → Steps d o r w old new who (Event.Mkdir p) Reply.Done
   mkdir_done new passes b a n k l = λ U V s.
       let H = hands_of V who in
       let B = (mkdir_outcome V.body p).1 in
@@ -80,14 +81,14 @@ module _ {S R W : Type 0} (o : objects.Ghosts S R W) (r : reads.Ghosts R) (w : w
 
   -- ---- ls
 
-  pub list_refused : (why : Refusal) → list_test old.names p ≡ Some (Reply.Refused why) → Steps o r w old old who (Event.List p) (Reply.Refused why)
+  pub list_refused : (why : Refusal) → list_test old.names p ≡ Some (Reply.Refused why) → Steps d o r w old old who (Event.List p) (Reply.Refused why)
   list_refused why h = λ U V s. goes_refused o r w U old old V who (Event.List p) (Reply.Refused why) s (list_refusal U old.names V.body (hands_of V who) p s.names ∙ h) refl refl
 
   -- where the walk leads to no node
   list_missing : (k : machine.Walk) (reply : Reply) → k ≡ walk_nodes old.names.nodes p → walk_fault k ≡ Some reply → list_test old.names p ≡ Some reply
   list_missing k reply leads fault = ap (λ x. first (x ∷ refuse Refusal.NotDirectory (is_some (option_and_then file_in (find_node old.names.nodes p))) ∷ [])) (ap walk_fault (sym leads) ∙ fault)
 
-  pub list_lost : (k : machine.Walk) (why : Refusal) → k ≡ walk_nodes old.names.nodes p → walk_fault k ≡ Some (Reply.Refused why) → Steps o r w old old who (Event.List p) (Reply.Refused why)
+  pub list_lost : (k : machine.Walk) (why : Refusal) → k ≡ walk_nodes old.names.nodes p → walk_fault k ≡ Some (Reply.Refused why) → Steps d o r w old old who (Event.List p) (Reply.Refused why)
   list_lost k why leads fault = list_refused why (list_missing k (Reply.Refused why) leads fault)
 
   -- where it leads to a node
@@ -106,10 +107,10 @@ module _ {S R W : Type 0} (o : objects.Ghosts S R W) (r : reads.Ghosts R) (w : w
   row_passes true n row is h = rw is refl
   row_passes false n row is h = absurd (cc)
 
-  pub list_file : (row : Row) → machine.Walk.Found (node_of row) ≡ walk_nodes old.names.nodes p → find_node old.names.nodes p ≡ Some (node_of row) → not row.dir ≡ true → Steps o r w old old who (Event.List p) (Reply.Refused Refusal.NotDirectory)
+  pub list_file : (row : Row) → machine.Walk.Found (node_of row) ≡ walk_nodes old.names.nodes p → find_node old.names.nodes p ≡ Some (node_of row) → not row.dir ≡ true → Steps d o r w old old who (Event.List p) (Reply.Refused Refusal.NotDirectory)
   list_file row leads found file = list_refused Refusal.NotDirectory (list_found (node_of row) leads found ∙ row_refused row.dir (node_of row) row refl file)
 
-  pub list_shown : (row : Row) (names : List Name) → machine.Walk.Found (node_of row) ≡ walk_nodes old.names.nodes p → find_node old.names.nodes p ≡ Some (node_of row) → not row.dir ≡ false → names ≡ names_in old.names.nodes p → Steps o r w old old who (Event.List p) (Reply.Names names)
+  pub list_shown : (row : Row) (names : List Name) → machine.Walk.Found (node_of row) ≡ walk_nodes old.names.nodes p → find_node old.names.nodes p ≡ Some (node_of row) → not row.dir ≡ false → names ≡ names_in old.names.nodes p → Steps d o r w old old who (Event.List p) (Reply.Names names)
   list_shown row names leads found directory are = λ U V s.
       let H = hands_of V who in
       let passes : list_test old.names p ≡ None = list_found (node_of row) leads found ∙ row_passes row.dir (node_of row) row refl directory in
@@ -128,5 +129,5 @@ module _ {S R W : Type 0} (o : objects.Ghosts S R W) (r : reads.Ghosts R) (w : w
         };
       }
 
-  pub list_short : Steps o r w old old who (Event.List p) (Reply.Refused Refusal.Memory)
+  pub list_short : Steps d o r w old old who (Event.List p) (Reply.Refused Refusal.Memory)
   list_short = λ U V s. goes_short o r w U old old V who (Event.List p) s refl

@@ -28,6 +28,7 @@ use Rattle.fs_model.specs.Step.{Step, label_choices, passed_rose}
 use Rattle.inode_tree.specs.Rows.{file_row}
 use Rattle.tier_book.specs.Rows.{is_block}
 use Rattle.outside.specs.Causes.{Rose}
+use Rattle.outside.specs.declared.disk.Disk as disks
 use Rattle.outside.specs.declared.objects.Objects as objects
 use Rattle.outside.specs.declared.objects.ObjectRead as reads
 use Rattle.outside.specs.declared.objects.ObjectWrite as writes
@@ -107,7 +108,7 @@ caches_nowhere U A m c kind = ap (λ kd. cond (true && may_cache kd && is_live A
 no_place : (U : Setup) (A : State) (m : machine.Stream) (c : Candidate) → m.kind ≡ ReadType.NoCache → cache_room U (fault_free 0) A m c ≡ None
 no_place U A m c kind = ap (λ g. cond (nat_lt (worker A m.worker).next (2 ^ 63)) (cache_place U A m g) None) (caches_nowhere U A m c kind) ∙ same_either (nat_lt (worker A m.worker).next (2 ^ 63)) None
 
-module _ {S R W : Type 0} (o : objects.Ghosts S R W) (r : reads.Ghosts R) (w : writes.Ghosts W) (old new : Core S R W w) (l : Label) (i : ℕ) (within : i < 64) (rest : KeepsRest old new) (U : Setup) (V : Whole) (s : Stands o r w U old V) where
+module _ {D S R W : Type 0} {d : disks.Ghosts D} (o : objects.Ghosts S R W) (r : reads.Ghosts R) (w : writes.Ghosts W) (old new : Core D S R W d w) (l : Label) (i : ℕ) (within : i < 64) (rest : KeepsRest old new) (U : Setup) (V : Whole) (s : Stands d o r w U old V) where
   -- what is asked of a label
   abbrev pub next_test : Option machine.Hand → Option Reply
   next_test h = elim (option_and_then unbroken h) [ None ↦ bad_label | Some k ↦ next_refusal_in U V.body k ]
@@ -116,11 +117,11 @@ module _ {S R W : Type 0} (o : objects.Ghosts S R W) (r : reads.Ghosts R) (w : w
   abbrev pub next_chosen : Option machine.Hand → Bool
   next_chosen h = label_choices no_rise (fault_free 0) h && elim (option_and_then unbroken h) [ None ↦ true | Some k ↦ passed_rose no_rise 0 (sources_for U V.body k) ]
 
-  pub next_missing : new.workers.items ≡ old.workers.items → hand_at (hands_of V (suc i)) l ≡ None → ChangesAt old.hands.items new.hands.items i KeepsHands → Goes o r w U old new V (suc i) (Event.Next l) (Reply.Refused Refusal.BadLabel)
+  pub next_missing : new.workers.items ≡ old.workers.items → hand_at (hands_of V (suc i)) l ≡ None → ChangesAt old.hands.items new.hands.items i KeepsHands → Goes d o r w U old new V (suc i) (Event.Next l) (Reply.Refused Refusal.BadLabel)
   next_missing workers at hands = goes_refused o r w U old new V (suc i) (Event.Next l) (Reply.Refused Refusal.BadLabel) (stays_kept o r w old new l i within rest workers U V s hands) (ap next_test at) refl refl
 
   -- where the label has a writer
-  pub next_writer : (t : Hand R W) (m : machine.Writer) → new.workers.items ≡ old.workers.items → hand_at (hands_of V (suc i)) l ≡ Some (machine.Hand.Writing m) → ChangesAt old.hands.items new.hands.items i (SetsHand l t t) → Goes o r w U old new V (suc i) (Event.Next l) (Reply.Refused Refusal.BadLabel)
+  pub next_writer : (t : Hand R W) (m : machine.Writer) → new.workers.items ≡ old.workers.items → hand_at (hands_of V (suc i)) l ≡ Some (machine.Hand.Writing m) → ChangesAt old.hands.items new.hands.items i (SetsHand l t t) → Goes d o r w U old new V (suc i) (Event.Next l) (Reply.Refused Refusal.BadLabel)
   next_writer t m workers at hands = goes_refused o r w U old new V (suc i) (Event.Next l) (Reply.Refused Refusal.BadLabel) (stays_kept o r w old new l i within rest workers U V s (sets_same i l t old.hands.items new.hands.items hands)) (ap next_test at ∙ by_broken m.broken) refl refl
     where
       by_broken : (b : Bool) → elim (cond b None (Some (machine.Hand.Writing m))) as (λ x. Option Reply) [ None ↦ bad_label | Some k ↦ next_refusal_in U V.body k ] ≡ bad_label
@@ -129,7 +130,7 @@ module _ {S R W : Type 0} (o : objects.Ghosts S R W) (r : reads.Ghosts R) (w : w
 
   -- the core with another hand of the label, and perhaps other workers
   stands_with : (B : State) (t u : Hand R W) (k h : machine.Hand) → SetupFits U old.block old.area new.workers.items → NamesStand old.names B → WorkersStand new.workers.items B → B.contents ≡ V.body.contents → Leaves (suc i, l) s.known s.known old.workers.items new.workers.items old.names.next_id old.names.next_id → NodesStand o s.known old.names.next_id old.block new.workers.items
-      → hand_at (hands_of V (suc i)) l ≡ Some k → ChangesAt old.hands.items new.hands.items i (SetsHand l t u) → Fits r w s.known new.workers.items old.names.next_id old.block (suc i, l) h u → Stands o r w U new (put_back V (suc i) B (set_hand l h (hands_of V (suc i))))
+      → hand_at (hands_of V (suc i)) l ≡ Some k → ChangesAt old.hands.items new.hands.items i (SetsHand l t u) → Fits r w s.known new.workers.items old.names.next_id old.block (suc i, l) h u → Stands d o r w U new (put_back V (suc i) B (set_hand l h (hands_of V (suc i))))
   stands_with B t u k h setup named workers contents left nodes at hands fits = stands_by o r w U new (put_back V (suc i) B (set_hand l h (hands_of V (suc i)))) s.known old.block old.area old.names new.workers.items new.hands.items rest.block rest.area rest.names refl refl (record {
     setup = setup;
     named = named;
@@ -150,7 +151,7 @@ module _ {S R W : Type 0} (o : objects.Ghosts S R W) (r : reads.Ghosts R) (w : w
     kept_hands : y ≡ x → ChangesAt old.hands.items new.hands.items i KeepsHands
     kept_hands same = sets_same i l (Hand.Reading x) old.hands.items new.hands.items (subst (λ z. ChangesAt old.hands.items new.hands.items i (SetsHand l (Hand.Reading x) (Hand.Reading z))) same hands)
 
-    kept : new.workers.items ≡ old.workers.items → y ≡ x → Stands o r w U new V
+    kept : new.workers.items ≡ old.workers.items → y ≡ x → Stands d o r w U new V
     kept workers same = stays_kept o r w old new l i within rest workers U V s (kept_hands same)
 
     refuse_is : refusal U V.body H (Event.Next l) ≡ next_refusal_of V.body m.file m.bs m.at (length m.bytes) m.source
@@ -159,7 +160,7 @@ module _ {S R W : Type 0} (o : objects.Ghosts S R W) (r : reads.Ghosts R) (w : w
     there_m : (b : Bool) → is_some (file_row old.names.nodes x.file) ≡ b → is_some (file_row old.names.nodes m.file) ≡ b
     there_m b there = ap (λ f. is_some (file_row old.names.nodes f)) fits.file ∙ there
 
-    pub next_lost : is_some (file_row old.names.nodes x.file) ≡ false → new.workers.items ≡ old.workers.items → y ≡ x → Goes o r w U old new V (suc i) (Event.Next l) (Reply.Refused Refusal.NotFound)
+    pub next_lost : is_some (file_row old.names.nodes x.file) ≡ false → new.workers.items ≡ old.workers.items → y ≡ x → Goes d o r w U old new V (suc i) (Event.Next l) (Reply.Refused Refusal.NotFound)
     next_lost gone workers same = goes_refused o r w U old new V (suc i) (Event.Next l) (Reply.Refused Refusal.NotFound) (kept workers same) (refuse_is ∙ missing_file old.names V.body s.names m.file m.bs m.at (length m.bytes) m.source (there_m false gone)) refl refl
 
     -- what the machine does with the stream
@@ -172,7 +173,7 @@ module _ {S R W : Type 0} (o : objects.Ghosts S R W) (r : reads.Ghosts R) (w : w
     does : (b : Bool) → nat_le (length m.bytes) m.at ≡ b → accepted U (fault_free 0) V.body H (suc i) (Event.Next l) ≡ at_end_if b
     does b is = ap does_with at ∙ ap at_end_if is
 
-    pub next_ended : is_some (file_row old.names.nodes x.file) ≡ true → x.len ≤ x.at → SameFile r x y x.at → y.source ≡ None → new.workers.items ≡ old.workers.items → Goes o r w U old new V (suc i) (Event.Next l) Reply.End
+    pub next_ended : is_some (file_row old.names.nodes x.file) ≡ true → x.len ≤ x.at → SameFile r x y x.at → y.source ≡ None → new.workers.items ≡ old.workers.items → Goes d o r w U old new V (suc i) (Event.Next l) Reply.End
     next_ended there ended same gone workers =
         let B = release (suc i) l V.body in
         let G = set_hand l (machine.Hand.Reading (bare m)) H in
@@ -204,7 +205,7 @@ module _ {S R W : Type 0} (o : objects.Ghosts S R W) (r : reads.Ghosts R) (w : w
     before : x.at < x.len → nat_le (length m.bytes) m.at ≡ false
     before inside = lt-leb (length m.bytes) m.at (omega (arith, inside, fits.len, fits.at))
 
-    pub next_still : (v t : ℕ) → is_some (file_row old.names.nodes x.file) ≡ true → x.at < x.len → source_of x.source ≡ Some (Source.AtWorker v t) → y ≡ x → new.workers.items ≡ old.workers.items → Goes o r w U old new V (suc i) (Event.Next l) (Reply.FromWorker v t)
+    pub next_still : (v t : ℕ) → is_some (file_row old.names.nodes x.file) ≡ true → x.at < x.len → source_of x.source ≡ Some (Source.AtWorker v t) → y ≡ x → new.workers.items ≡ old.workers.items → Goes d o r w U old new V (suc i) (Event.Next l) (Reply.FromWorker v t)
     next_still v t there inside has same workers =
         let source : m.source ≡ Some (Source.AtWorker v t) = fits.source ∙ has in
         record {
@@ -254,7 +255,7 @@ module _ {S R W : Type 0} (o : objects.Ghosts S R W) (r : reads.Ghosts R) (w : w
           ∙ wanted_one old.names V.body s.names m.file m.bs m.at (length m.bytes) m.source wants (refuse (Refusal.Unavailable (m.at / m.bs)) (is_none c))
           (refusal_at old.workers.items V.body s.workers m.file (m.at / m.bs) kept_m ∙ ap (λ k. refuse (Refusal.Unavailable (m.at / m.bs)) (is_none k)) (copy_m c is))
 
-      pub next_unavailable : (b : ℕ) → b ≡ wanted o r old.block x → first_copy old.workers.items x.file (wanted o r old.block x) ≡ None → y ≡ x → new.workers.items ≡ old.workers.items → Goes o r w U old new V (suc i) (Event.Next l) (Reply.Refused (Refusal.Unavailable b))
+      pub next_unavailable : (b : ℕ) → b ≡ wanted o r old.block x → first_copy old.workers.items x.file (wanted o r old.block x) ≡ None → y ≡ x → new.workers.items ≡ old.workers.items → Goes d o r w U old new V (suc i) (Event.Next l) (Reply.Refused (Refusal.Unavailable b))
       next_unavailable b is none same workers = goes_refused o r w U old new V (suc i) (Event.Next l) (Reply.Refused (Refusal.Unavailable b)) (kept workers same)
           (refused_by None none ∙ ap (λ k. Some (Reply.Refused (Refusal.Unavailable k))) (sym (is ∙ number_m))) refl refl
 
@@ -321,7 +322,7 @@ module _ {S R W : Type 0} (o : objects.Ghosts S R W) (r : reads.Ghosts R) (w : w
           rows_same : ChangesAt old.workers.items new.workers.items (pred 1) (RowChanges (λ W. W))
           rows_same = fixed (RowChanges (λ W. W)) old.workers.items new.workers.items 0 n n' was is change (same_row n n' tried.same)
 
-          tried_stands : Stands o r w U new V
+          tried_stands : Stands d o r w U new V
           tried_stands = stands_by o r w U new V s.known old.block old.area old.names new.workers.items new.hands.items rest.block rest.area rest.names refl refl (record {
             setup = setup_stays (λ W. W) old.workers.items new.workers.items 1 rows_same s.setup;
             named = s.names;
@@ -332,7 +333,7 @@ module _ {S R W : Type 0} (o : objects.Ghosts S R W) (r : reads.Ghosts R) (w : w
                 (λ a b g. told_stands o s.known old.names.next_id old.block 1 c.tier a b g.same.started (ap (λ k. k.next) g.same.book) g.tiers (λ P all. subst (All P) (sym (ap (λ k. k.rows) g.same.book)) all) (ap (λ k. k.rooms) g.same.book)) s.objects;
           })
 
-          pub next_short : Goes o r w U old new V (suc i) (Event.Next l) (Reply.Refused Refusal.Memory)
+          pub next_short : Goes d o r w U old new V (suc i) (Event.Next l) (Reply.Refused Refusal.Memory)
           next_short = goes_short o r w U old new V (suc i) (Event.Next l) tried_stands refl
 
           abbrev remains : Remains
@@ -341,7 +342,7 @@ module _ {S R W : Type 0} (o : objects.Ghosts S R W) (r : reads.Ghosts R) (w : w
           abbrev fault_test : Option machine.Hand → Bool
           fault_test h = by_hand (λ k. seeks_source k && next_may_fail (tier_rise 1) (Device.TiersOf 1) (sources_for U V.body k)) (option_and_then unbroken h)
 
-          pub next_fault : ChangesAt n.tiers.items n'.tiers.items c.tier (IsFaultOrShort o key (place_in o r old.block x + left_of o r old.block x)) → Goes o r w U old new V (suc i) (Event.Next l) (Reply.Refused (Refusal.TierFault 1))
+          pub next_fault : ChangesAt n.tiers.items n'.tiers.items c.tier (IsFaultOrShort o key (place_in o r old.block x + left_of o r old.block x)) → Goes d o r w U old new V (suc i) (Event.Next l) (Reply.Refused (Refusal.TierFault 1))
           next_fault failed =
               let rose : At n.tiers.items n'.tiers.items c.tier (λ a b. Rose (o.faults a) (o.faults b)) = then_rose o key IsBlock (place_in o r old.block x + left_of o r old.block x) long (slice_get n.tiers.items c.tier) (slice_get n'.tiers.items c.tier) object_is failed.at in
               let tier : At old.workers.items new.workers.items 0 (λ a b. At a.tiers.items b.tiers.items c.tier (λ p q. Rose (o.faults p) (o.faults q))) = (fixed (λ a b. At a.tiers.items b.tiers.items c.tier (λ p q. Rose (o.faults p) (o.faults q))) old.workers.items new.workers.items 0 n n' was is change rose).at in
@@ -412,7 +413,7 @@ module _ {S R W : Type 0} (o : objects.Ghosts S R W) (r : reads.Ghosts R) (w : w
           source_z : Some candidate.0 ≡ source_of y.source
           source_z = ap (λ t. Some (Source.AtWorker 1 t)) (sym opens.tier) ∙ ap (λ v. Some (Source.AtWorker v z.tier)) (sym mine) ∙ sym (good_source z good) ∙ sym (ap source_of there)
 
-          opened_stands : Stands o r w U new (put_back V (suc i) B (set_hand l (machine.Hand.Reading k_on) H))
+          opened_stands : Stands d o r w U new (put_back V (suc i) B (set_hand l (machine.Hand.Reading k_on) H))
           opened_stands = stands_with B (Hand.Reading x) (Hand.Reading y) (machine.Hand.Reading m) (machine.Hand.Reading k_on)
               (setup_stays uses old.workers.items new.workers.items 1 rows_used s.setup)
               (record { nodes = s.names.nodes; gate = s.names.gate; next_id = s.names.next_id; unlocked = s.names.unlocked; up = s.names.up; unfused = s.names.unfused })
@@ -424,7 +425,7 @@ module _ {S R W : Type 0} (o : objects.Ghosts S R W) (r : reads.Ghosts R) (w : w
               at hands
               (fits_in_place r s.known old.names.next_id old.block m x y fits k_on refl refl refl refl refl refl (ap (new_cache U B0 m (promoted_by (caching U (fault_free 0) B0 m candidate))) place_none) same source_z (subst (λ q. IfSome q (λ b. b.failed ≡ false → ReaderFits r k_on b)) (sym there) (λ still. reads_on)))
 
-          pub next_opened : Goes o r w U old new V (suc i) (Event.Next l) (Reply.FromWorker 1 c.tier)
+          pub next_opened : Goes d o r w U old new V (suc i) (Event.Next l) (Reply.FromWorker 1 c.tier)
           next_opened = record {
             after = put_back V (suc i) B (set_hand l (machine.Hand.Reading k_on) H);
             rise = no_rise;
@@ -449,13 +450,13 @@ module _ {S R W : Type 0} (o : objects.Ghosts S R W) (r : reads.Ghosts R) (w : w
     abbrev Fails : Node S → Node S → Type 0
     Fails = FailsRow o r x.file (wanted o r old.block x) (place_in o r old.block x) (left_of o r old.block x)
 
-    seek_short : Sought o r old.names.nodes x → ChangesAt old.workers.items new.workers.items 0 Tries → y ≡ x → Goes o r w U old new V (suc i) (Event.Next l) (Reply.Refused Refusal.Memory)
+    seek_short : Sought o r old.names.nodes x → ChangesAt old.workers.items new.workers.items 0 Tries → y ≡ x → Goes d o r w U old new V (suc i) (Event.Next l) (Reply.Refused Refusal.Memory)
     seek_short sought change same =
         let both = both_there (slice_get old.workers.items 0) (slice_get new.workers.items 0) change.at in
         let copy = there_is (Tried o r x.file (wanted o r old.block x) (place_in o r old.block x) (left_of o r old.block x) both.0 both.1) (copy_at x.file (wanted o r old.block x) (Some both.0)) both.4 in
         next_short sought both.0 both.1 copy.0 both.2 both.3 copy.1 change copy.2 same
 
-    seek_fault : Sought o r old.names.nodes x → ChangesAt old.workers.items new.workers.items 0 Tries → ChangesAt old.workers.items new.workers.items 0 Fails → y ≡ x → Goes o r w U old new V (suc i) (Event.Next l) (Reply.Refused (Refusal.TierFault 1))
+    seek_fault : Sought o r old.names.nodes x → ChangesAt old.workers.items new.workers.items 0 Tries → ChangesAt old.workers.items new.workers.items 0 Fails → y ≡ x → Goes d o r w U old new V (suc i) (Event.Next l) (Reply.Refused (Refusal.TierFault 1))
     seek_fault sought change fails same =
         let both = both_there (slice_get old.workers.items 0) (slice_get new.workers.items 0) change.at in
         let copy = there_is (Tried o r x.file (wanted o r old.block x) (place_in o r old.block x) (left_of o r old.block x) both.0 both.1) (copy_at x.file (wanted o r old.block x) (Some both.0)) both.4 in
@@ -464,7 +465,7 @@ module _ {S R W : Type 0} (o : objects.Ghosts S R W) (r : reads.Ghosts R) (w : w
         subst (λ q. IsSomeAnd q (λ c. ChangesAt both.0.tiers.items both.1.tiers.items c.tier (IsFaultOrShort o (object_key both.0.started c.number) (place_in o r old.block x + left_of o r old.block x)))) copy.1 failed in
         next_fault sought both.0 both.1 copy.0 both.2 both.3 copy.1 change copy.2 same tier
 
-    seek_opened : (t : ℕ) → Sought o r old.names.nodes x → SameFile r x y x.at → IsSomeAnd y.source (NewSource o r old.block x old.workers.items new.workers.items t) → Goes o r w U old new V (suc i) (Event.Next l) (Reply.FromWorker 1 t)
+    seek_opened : (t : ℕ) → Sought o r old.names.nodes x → SameFile r x y x.at → IsSomeAnd y.source (NewSource o r old.block x old.workers.items new.workers.items t) → Goes d o r w U old new V (suc i) (Event.Next l) (Reply.FromWorker 1 t)
     seek_opened t sought same source =
         let given = there_is (NewSource o r old.block x old.workers.items new.workers.items t) y.source source in
         let z = given.0 in
@@ -472,10 +473,10 @@ module _ {S R W : Type 0} (o : objects.Ghosts S R W) (r : reads.Ghosts R) (w : w
         let both = both_there (slice_get old.workers.items 0) (slice_get new.workers.items 0) is_new.row.at in
         let copy = there_is (Opens o r x.file (wanted o r old.block x) (place_in o r old.block x) (left_of o r old.block x) z.stream.reader t both.0 both.1) (copy_at x.file (wanted o r old.block x) (Some both.0)) both.4 in
         let opens : Opens o r x.file (wanted o r old.block x) (place_in o r old.block x) (left_of o r old.block x) z.stream.reader z.tier both.0 both.1 copy.0 = subst (λ q. Opens o r x.file (wanted o r old.block x) (place_in o r old.block x) (left_of o r old.block x) z.stream.reader q both.0 both.1 copy.0) (sym is_new.tier) copy.2 in
-        subst (λ q. Goes o r w U old new V (suc i) (Event.Next l) (Reply.FromWorker 1 q)) (sym copy.2.tier)
+        subst (λ q. Goes d o r w U old new V (suc i) (Event.Next l) (Reply.FromWorker 1 q)) (sym copy.2.tier)
         (next_opened sought both.0 both.1 copy.0 both.2 both.3 copy.1 is_new.row z opens is_new.good is_new.worker is_new.due given.1 same)
 
-  by_found : (x y : Stream R) (found : Found) → ChangesAt old.hands.items new.hands.items i (SetsHand l (Hand.Reading x) (Hand.Reading y)) → (m : machine.Stream) → hand_at (hands_of V (suc i)) l ≡ Some (machine.Hand.Reading m) → StreamFits r s.known old.names.next_id old.block m x → SeeksOf o r old.names.nodes old.block old.workers.items new.workers.items x y found → Goes o r w U old new V (suc i) (Event.Next l) (found_reply found)
+  by_found : (x y : Stream R) (found : Found) → ChangesAt old.hands.items new.hands.items i (SetsHand l (Hand.Reading x) (Hand.Reading y)) → (m : machine.Stream) → hand_at (hands_of V (suc i)) l ≡ Some (machine.Hand.Reading m) → StreamFits r s.known old.names.next_id old.block m x → SeeksOf o r old.names.nodes old.block old.workers.items new.workers.items x y found → Goes d o r w U old new V (suc i) (Event.Next l) (found_reply found)
   by_found x y Found.BadLabel hands m at fits p = absurd p
   by_found x y Found.NotFound hands m at fits p = next_lost x y hands m at fits p.0 p.2 p.1
   by_found x y Found.End hands m at fits p = next_ended x y hands m at fits p.0 p.1 p.2 p.3 p.4
@@ -485,7 +486,7 @@ module _ {S R W : Type 0} (o : objects.Ghosts S R W) (r : reads.Ghosts R) (w : w
   by_found x y Found.Fault hands m at fits p = seek_fault x y hands m at fits p.0 p.1 p.2 p.3
   by_found x y Found.Memory hands m at fits p = seek_short x y hands m at fits p.0 p.1 p.2
 
-  by_hands : (t u : Hand R W) (found : Found) → ChangesAt old.hands.items new.hands.items i (SetsHand l t u) → (k : machine.Hand) → hand_at (hands_of V (suc i)) l ≡ Some k → Fits r w s.known old.workers.items old.names.next_id old.block (suc i, l) k t → HandSeeks o r old.names.nodes old.block old.workers.items new.workers.items t u found → Goes o r w U old new V (suc i) (Event.Next l) (found_reply found)
+  by_hands : (t u : Hand R W) (found : Found) → ChangesAt old.hands.items new.hands.items i (SetsHand l t u) → (k : machine.Hand) → hand_at (hands_of V (suc i)) l ≡ Some k → Fits r w s.known old.workers.items old.names.next_id old.block (suc i, l) k t → HandSeeks o r old.names.nodes old.block old.workers.items new.workers.items t u found → Goes d o r w U old new V (suc i) (Event.Next l) (found_reply found)
   by_hands (Hand.Reading x) (Hand.Reading y) found hands (machine.Hand.Reading m) at fits p = by_found x y found hands m at fits p
   by_hands (Hand.Reading x) (Hand.Reading y) found hands (machine.Hand.Writing m) at fits p = absurd fits
   by_hands (Hand.Reading x) (Hand.Reading y) found hands (machine.Hand.Moving m) at fits p = absurd fits
@@ -493,23 +494,23 @@ module _ {S R W : Type 0} (o : objects.Ghosts S R W) (r : reads.Ghosts R) (w : w
   by_hands (Hand.Reading x) (Hand.Writing y) found hands k at fits p = absurd p
   by_hands (Hand.Writing x) u found hands (machine.Hand.Reading m) at fits p = absurd fits
   by_hands (Hand.Writing x) u found hands (machine.Hand.Writing m) at fits p =
-      subst (λ g. Goes o r w U old new V (suc i) (Event.Next l) (found_reply g)) (sym p.1) (next_writer (Hand.Writing x) m p.2 at (subst (λ k. ChangesAt old.hands.items new.hands.items i (SetsHand l (Hand.Writing x) k)) p.0 hands))
+      subst (λ g. Goes d o r w U old new V (suc i) (Event.Next l) (found_reply g)) (sym p.1) (next_writer (Hand.Writing x) m p.2 at (subst (λ k. ChangesAt old.hands.items new.hands.items i (SetsHand l (Hand.Writing x) k)) p.0 hands))
   by_hands (Hand.Writing x) u found hands (machine.Hand.Moving m) at fits p = absurd fits
   by_hands (Hand.Writing x) u found hands (machine.Hand.Storing m) at fits p = absurd fits
 
-  pub sought_goes : (t u : Hand R W) (found : Found) → ChangesAt old.hands.items new.hands.items i (SetsHand l t u) → HandSeeks o r old.names.nodes old.block old.workers.items new.workers.items t u found → Goes o r w U old new V (suc i) (Event.Next l) (found_reply found)
+  pub sought_goes : (t u : Hand R W) (found : Found) → ChangesAt old.hands.items new.hands.items i (SetsHand l t u) → HandSeeks o r old.names.nodes old.block old.workers.items new.workers.items t u found → Goes d o r w U old new V (suc i) (Event.Next l) (found_reply found)
   sought_goes t u found hands p =
       let there = fits_at r w s.known old.workers.items old.names.next_id old.block V.hands old.hands.items s.hands i within l t (set_there i l t u old.hands.items new.hands.items hands) in
       by_hands t u found hands there.0 there.1 there.2 p
 
 -- ---- for any actor
 
-module _ {S R W : Type 0} (o : objects.Ghosts S R W) (r : reads.Ghosts R) (w : writes.Ghosts W) (old mid : Core S R W w) (who : ℕ) (actor : is_actor who ≡ true) (l : Label) (rest : KeepsRest old mid) (workers : mid.workers ≡ old.workers) where
-  pub next_no_label : IsSomeAnd (slice_get old.hands.items (pred who)) (λ s. hand_in s l ≡ None) → ChangesAt old.hands.items mid.hands.items (pred who) KeepsHands → Steps o r w old mid who (Event.Next l) (Reply.Refused Refusal.BadLabel)
-  next_no_label absent hands = by_actor (λ k. IsSomeAnd (slice_get old.hands.items (pred k)) (λ s. hand_in s l ≡ None) → ChangesAt old.hands.items mid.hands.items (pred k) KeepsHands → Steps o r w old mid k (Event.Next l) (Reply.Refused Refusal.BadLabel))
+module _ {D S R W : Type 0} {d : disks.Ghosts D} (o : objects.Ghosts S R W) (r : reads.Ghosts R) (w : writes.Ghosts W) (old mid : Core D S R W d w) (who : ℕ) (actor : is_actor who ≡ true) (l : Label) (rest : KeepsRest old mid) (workers : mid.workers ≡ old.workers) where
+  pub next_no_label : IsSomeAnd (slice_get old.hands.items (pred who)) (λ s. hand_in s l ≡ None) → ChangesAt old.hands.items mid.hands.items (pred who) KeepsHands → Steps d o r w old mid who (Event.Next l) (Reply.Refused Refusal.BadLabel)
+  next_no_label absent hands = by_actor (λ k. IsSomeAnd (slice_get old.hands.items (pred k)) (λ s. hand_in s l ≡ None) → ChangesAt old.hands.items mid.hands.items (pred k) KeepsHands → Steps d o r w old mid k (Event.Next l) (Reply.Refused Refusal.BadLabel))
       (λ i within absent hands. λ U V s. next_missing o r w old mid l i within rest U V s (ap (λ x. x.items) workers) (absent_at r w s.known old.workers.items old.names.next_id old.block V.hands old.hands.items s.hands i within l absent) hands) who actor absent hands
 
-  module _ (found_in new : Core S R W w) (t u : Hand R W) (found : Found) (rest2 : KeepsRest mid found_in) (hands2 : found_in.hands ≡ mid.hands) (rest3 : KeepsRest found_in new) (workers3 : new.workers ≡ found_in.workers) (p : HandSeeks o r mid.names.nodes mid.block mid.workers.items found_in.workers.items t u found) where
+  module _ (found_in new : Core D S R W d w) (t u : Hand R W) (found : Found) (rest2 : KeepsRest mid found_in) (hands2 : found_in.hands ≡ mid.hands) (rest3 : KeepsRest found_in new) (workers3 : new.workers ≡ found_in.workers) (p : HandSeeks o r mid.names.nodes mid.block mid.workers.items found_in.workers.items t u found) where
     -- the search between the core before and the core afterwards
     seeks_whole : HandSeeks o r old.names.nodes old.block old.workers.items new.workers.items t u found
     seeks_whole =
@@ -518,7 +519,7 @@ module _ {S R W : Type 0} (o : objects.Ghosts S R W) (r : reads.Ghosts R) (w : w
         (subst (λ q. HandSeeks o r old.names.nodes q mid.workers.items found_in.workers.items t u found) rest.block
         (subst (λ q. HandSeeks o r q.nodes mid.block mid.workers.items found_in.workers.items t u found) rest.names p)))
 
-    pub next_label : (k : Label) (reply : Reply) → reply ≡ found_reply found → k ≡ l → ChangesAt old.hands.items mid.hands.items (pred who) (EndsHand l t) → ChangesAt found_in.hands.items new.hands.items (pred who) (AddsHand k u) → Steps o r w old new who (Event.Next l) reply
-    next_label k reply is same ended added = by_actor (λ j. ChangesAt old.hands.items mid.hands.items (pred j) (EndsHand l t) → ChangesAt found_in.hands.items new.hands.items (pred j) (AddsHand k u) → Steps o r w old new j (Event.Next l) reply)
-        (λ i within ended added. λ U V s. subst (λ a. Goes o r w U old new V (suc i) (Event.Next l) a) (sym is)
+    pub next_label : (k : Label) (reply : Reply) → reply ≡ found_reply found → k ≡ l → ChangesAt old.hands.items mid.hands.items (pred who) (EndsHand l t) → ChangesAt found_in.hands.items new.hands.items (pred who) (AddsHand k u) → Steps d o r w old new who (Event.Next l) reply
+    next_label k reply is same ended added = by_actor (λ j. ChangesAt old.hands.items mid.hands.items (pred j) (EndsHand l t) → ChangesAt found_in.hands.items new.hands.items (pred j) (AddsHand k u) → Steps d o r w old new j (Event.Next l) reply)
+        (λ i within ended added. λ U V s. subst (λ a. Goes d o r w U old new V (suc i) (Event.Next l) a) (sym is)
         (sought_goes o r w old new l i within (rest_both rest (rest_both rest2 rest3)) U V s t u found (sets_hand i l k t u old.hands.items mid.hands.items new.hands.items same ended (subst (λ hs. ChangesAt hs.items new.hands.items i (AddsHand k u)) hands2 added)) seeks_whole)) who actor ended added

@@ -26,6 +26,7 @@ use Rattle.fs_model.specs.Choices.{fault_free}
 use Rattle.fs_model.specs.Journaling.{fuse_serves}
 use Rattle.fs_model.specs.Machine.{refusal, accepted, hands_of, put_back}
 use Rattle.fs_model.specs.Step.{Step}
+use Rattle.outside.specs.declared.disk.Disk as disks
 use Rattle.outside.specs.declared.objects.Objects as objects
 use Rattle.outside.specs.declared.objects.ObjectRead as reads
 use Rattle.outside.specs.declared.objects.ObjectWrite as writes
@@ -173,9 +174,9 @@ add_absent {T} i l t old new c = by_cases (slice_get old i) (slice_get new i) c.
 
 -- ---- the event
 
-module _ {S R W : Type 0} (o : objects.Ghosts S R W) (r : reads.Ghosts R) (w : writes.Ghosts W) (old new : Core S R W w) (l : Label) (p : Path) (v i : ℕ) (within : i < 64) where
+module _ {D S R W : Type 0} {d : disks.Ghosts D} (o : objects.Ghosts S R W) (r : reads.Ghosts R) (w : writes.Ghosts W) (old new : Core D S R W d w) (l : Label) (p : Path) (v i : ℕ) (within : i < 64) where
   -- the tests say the same of the core and of the machine
-  tests_alike : (U : Setup) (V : Whole) (s : Stands o r w U old V) → refusal U V.body (hands_of V (suc i)) (Event.OpenFile l p ReadType.NoCache v) ≡ open_test old.block old.names (here old.workers.items old.hands.items (suc i) l v) p
+  tests_alike : (U : Setup) (V : Whole) (s : Stands d o r w U old V) → refusal U V.body (hands_of V (suc i)) (Event.OpenFile l p ReadType.NoCache v) ≡ open_test old.block old.names (here old.workers.items old.hands.items (suc i) l v) p
   tests_alike U V s =
       let H = hands_of V (suc i) in
       let live = is_live V.body v in
@@ -185,10 +186,10 @@ module _ {S R W : Type 0} (o : objects.Ghosts S R W) (r : reads.Ghosts R) (w : w
       ∙ ap (λ n. open_test old.block old.names (record { taken = has_here old.hands.items (suc i) l; labels = n; worker = v; configured = is_configured U v; live = live }) p) (counted_here r w s.known old.workers.items old.names.next_id old.block V.hands old.hands.items s.hands i within l)
       ∙ ap (λ n. open_test old.block old.names (record { taken = has_here old.hands.items (suc i) l; labels = count_here old.hands.items (suc i); worker = v; configured = nat_lt 0 v && nat_le v n; live = live }) p) (ap length s.setup.tiers ∙ length-map old.workers.items sizes_of)
 
-  pub refused_at : (why : Refusal) → open_test old.block old.names (here old.workers.items old.hands.items (suc i) l v) p ≡ Some (Reply.Refused why) → Steps o r w old old (suc i) (Event.OpenFile l p ReadType.NoCache v) (Reply.Refused why)
+  pub refused_at : (why : Refusal) → open_test old.block old.names (here old.workers.items old.hands.items (suc i) l v) p ≡ Some (Reply.Refused why) → Steps d o r w old old (suc i) (Event.OpenFile l p ReadType.NoCache v) (Reply.Refused why)
   refused_at why h = λ U V s. goes_refused o r w U old old V (suc i) (Event.OpenFile l p ReadType.NoCache v) (Reply.Refused why) s (tests_alike U V s ∙ h) refl refl
 
-  pub short_at : KeepsRest old new → new.workers ≡ old.workers → ChangesAt old.hands.items new.hands.items i KeepsHands → Steps o r w old new (suc i) (Event.OpenFile l p ReadType.NoCache v) (Reply.Refused Refusal.Memory)
+  pub short_at : KeepsRest old new → new.workers ≡ old.workers → ChangesAt old.hands.items new.hands.items i KeepsHands → Steps d o r w old new (suc i) (Event.OpenFile l p ReadType.NoCache v) (Reply.Refused Refusal.Memory)
   short_at rest workers hands = λ U V s. goes_short o r w U old new V (suc i) (Event.OpenFile l p ReadType.NoCache v) (stands_by o r w U new V s.known old.block old.area old.names old.workers.items new.hands.items rest.block rest.area rest.names (ap (λ x. x.items) workers) refl (record {
     setup = s.setup;
     named = s.names;
@@ -199,14 +200,14 @@ module _ {S R W : Type 0} (o : objects.Ghosts S R W) (r : reads.Ghosts R) (w : w
   })) refl
 
   -- what is known of a file that is done
-  done_known : (U : Setup) (V : Whole) (s : Stands o r w U old V) (f : File) → file_there old.names p ≡ Some f → f.done ≡ true → (f.id < old.names.next_id) × DoneFits s.known V.body.contents old.block f
+  done_known : (U : Setup) (V : Whole) (s : Stands d o r w U old V) (f : File) → file_there old.names p ≡ Some f → f.done ≡ true → (f.id < old.names.next_id) × DoneFits s.known V.body.contents old.block f
   done_known U V s f there done =
       let row = file_row_there (find_node old.names.nodes p) f there in
       let fits : FileFits s.known V.body.contents old.names.next_id old.block (p, machineNode.IsFile f) = node_of_all (FileFits s.known V.body.contents old.names.next_id old.block) p (machineNode.IsFile f) old.names.nodes (file_anywhere s.known V.body.contents old.names.next_id old.block) s.files.each row in
       (fits.0, fits.2 done)
 
   pub opened_at : (f : File) → open_test old.block old.names (here old.workers.items old.hands.items (suc i) l v) p ≡ None → file_there old.names p ≡ Some f → f.done ≡ true → KeepsRest old new → new.workers ≡ old.workers
-      → ChangesAt old.hands.items new.hands.items i (AddsHand l (Hand.Reading (record { file = f.id; len = f.len; at = 0; worker = v; source = None }))) → Steps o r w old new (suc i) (Event.OpenFile l p ReadType.NoCache v) (Reply.Opened f.len)
+      → ChangesAt old.hands.items new.hands.items i (AddsHand l (Hand.Reading (record { file = f.id; len = f.len; at = 0; worker = v; source = None }))) → Steps d o r w old new (suc i) (Event.OpenFile l p ReadType.NoCache v) (Reply.Opened f.len)
   opened_at f passes there done rest workers hands = λ U V s.
       let H = hands_of V (suc i) in
       let known = done_known U V s f there done in
@@ -255,20 +256,20 @@ module _ {S R W : Type 0} (o : objects.Ghosts S R W) (r : reads.Ghosts R) (w : w
 -- ---- for any actor
 
 -- what two events leave as it was
-pub rest_both : {S R W : Type 0} {w : writes.Ghosts W} {old mid new : Core S R W w} → KeepsRest old mid → KeepsRest mid new → KeepsRest old new
-rest_both a b = record { block = b.block ∙ a.block; area = b.area ∙ a.area; names = b.names ∙ a.names; stores = b.stores ∙ a.stores }
+pub rest_both : {D S R W : Type 0} {d : disks.Ghosts D} {w : writes.Ghosts W} {old mid new : Core D S R W d w} → KeepsRest old mid → KeepsRest mid new → KeepsRest old new
+rest_both a b = record { block = b.block ∙ a.block; area = b.area ∙ a.area; names = b.names ∙ a.names; areas = b.areas ∙ a.areas; stores = b.stores ∙ a.stores }
 
-module _ {S R W : Type 0} (o : objects.Ghosts S R W) (r : reads.Ghosts R) (w : writes.Ghosts W) (old : Core S R W w) (who : ℕ) (actor : is_actor who ≡ true) (l : Label) (p : Path) (v : ℕ) where
-  pub open_refused : (why : Refusal) → open_test old.block old.names (here old.workers.items old.hands.items who l v) p ≡ Some (Reply.Refused why) → Steps o r w old old who (Event.OpenFile l p ReadType.NoCache v) (Reply.Refused why)
-  open_refused why = by_actor (λ k. open_test old.block old.names (here old.workers.items old.hands.items k l v) p ≡ Some (Reply.Refused why) → Steps o r w old old k (Event.OpenFile l p ReadType.NoCache v) (Reply.Refused why)) (λ i within. refused_at o r w old old l p v i within why) who actor
+module _ {D S R W : Type 0} {d : disks.Ghosts D} (o : objects.Ghosts S R W) (r : reads.Ghosts R) (w : writes.Ghosts W) (old : Core D S R W d w) (who : ℕ) (actor : is_actor who ≡ true) (l : Label) (p : Path) (v : ℕ) where
+  pub open_refused : (why : Refusal) → open_test old.block old.names (here old.workers.items old.hands.items who l v) p ≡ Some (Reply.Refused why) → Steps d o r w old old who (Event.OpenFile l p ReadType.NoCache v) (Reply.Refused why)
+  open_refused why = by_actor (λ k. open_test old.block old.names (here old.workers.items old.hands.items k l v) p ≡ Some (Reply.Refused why) → Steps d o r w old old k (Event.OpenFile l p ReadType.NoCache v) (Reply.Refused why)) (λ i within. refused_at o r w old old l p v i within why) who actor
 
-  pub open_short : (new : Core S R W w) → KeepsRest old new → new.workers ≡ old.workers → ChangesAt old.hands.items new.hands.items (pred who) KeepsHands → Steps o r w old new who (Event.OpenFile l p ReadType.NoCache v) (Reply.Refused Refusal.Memory)
-  open_short new rest workers = by_actor (λ k. ChangesAt old.hands.items new.hands.items (pred k) KeepsHands → Steps o r w old new k (Event.OpenFile l p ReadType.NoCache v) (Reply.Refused Refusal.Memory)) (λ i within. short_at o r w old new l p v i within rest workers) who actor
+  pub open_short : (new : Core D S R W d w) → KeepsRest old new → new.workers ≡ old.workers → ChangesAt old.hands.items new.hands.items (pred who) KeepsHands → Steps d o r w old new who (Event.OpenFile l p ReadType.NoCache v) (Reply.Refused Refusal.Memory)
+  open_short new rest workers = by_actor (λ k. ChangesAt old.hands.items new.hands.items (pred k) KeepsHands → Steps d o r w old new k (Event.OpenFile l p ReadType.NoCache v) (Reply.Refused Refusal.Memory)) (λ i within. short_at o r w old new l p v i within rest workers) who actor
 
-  pub open_done : (mid new : Core S R W w) (f : File) (k : Label) → k ≡ l → open_test old.block old.names (here old.workers.items old.hands.items who l v) p ≡ None → file_there old.names p ≡ Some f → f.done ≡ true
+  pub open_done : (mid new : Core D S R W d w) (f : File) (k : Label) → k ≡ l → open_test old.block old.names (here old.workers.items old.hands.items who l v) p ≡ None → file_there old.names p ≡ Some f → f.done ≡ true
       → KeepsRest old mid → mid.workers ≡ old.workers → ChangesAt old.hands.items mid.hands.items (pred who) KeepsHands
       → KeepsRest mid new → new.workers ≡ mid.workers → ChangesAt mid.hands.items new.hands.items (pred who) (AddsHand k (Hand.Reading (record { file = f.id; len = f.len; at = 0; worker = v; source = None })))
-      → Steps o r w old new who (Event.OpenFile l p ReadType.NoCache v) (Reply.Opened f.len)
+      → Steps d o r w old new who (Event.OpenFile l p ReadType.NoCache v) (Reply.Opened f.len)
   open_done mid new f k same passes there done rest workers kept more more_workers added =
-      by_actor (λ j. open_test old.block old.names (here old.workers.items old.hands.items j l v) p ≡ None → ChangesAt old.hands.items mid.hands.items (pred j) KeepsHands → ChangesAt mid.hands.items new.hands.items (pred j) (AddsHand k (Hand.Reading (record { file = f.id; len = f.len; at = 0; worker = v; source = None }))) → Steps o r w old new j (Event.OpenFile l p ReadType.NoCache v) (Reply.Opened f.len))
+      by_actor (λ j. open_test old.block old.names (here old.workers.items old.hands.items j l v) p ≡ None → ChangesAt old.hands.items mid.hands.items (pred j) KeepsHands → ChangesAt mid.hands.items new.hands.items (pred j) (AddsHand k (Hand.Reading (record { file = f.id; len = f.len; at = 0; worker = v; source = None }))) → Steps d o r w old new j (Event.OpenFile l p ReadType.NoCache v) (Reply.Opened f.len))
       (λ i within passes kept added. opened_at o r w old new l p v i within f passes there done (rest_both rest more) (more_workers ∙ workers) (adds_after i l k (Hand.Reading (record { file = f.id; len = f.len; at = 0; worker = v; source = None })) old.hands.items mid.hands.items new.hands.items same kept added)) who actor passes kept added

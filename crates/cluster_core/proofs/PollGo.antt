@@ -21,6 +21,7 @@ use Rattle.fs_model.specs.Faults.{by_hand, copy_may_fail, reader_dropped, rose, 
 use Rattle.fs_model.specs.Machine.{refusal, accepted, hands_of, put_back, own}
 use Rattle.fs_model.specs.Step.{Step, label_choices, amount_choice, device_choices, reads_on, waited_by, may_choose}
 use Rattle.outside.specs.Causes.{Rose}
+use Rattle.outside.specs.declared.disk.Disk as disks
 use Rattle.outside.specs.declared.objects.Objects as objects
 use Rattle.outside.specs.declared.objects.ObjectRead as reads
 use Rattle.outside.specs.declared.objects.ObjectWrite as writes
@@ -155,12 +156,12 @@ rose_both o r w count p q b z is next unsteady more = subst (λ k. SourceRose o 
 
 -- ---- the event
 
-module _ {S R W : Type 0} (o : objects.Ghosts S R W) (r : reads.Ghosts R) (w : writes.Ghosts W) (old new : Core S R W w) (l : Label) (max i : ℕ) (within : i < 64) (rest : KeepsRest old new) (workers : new.workers.items ≡ old.workers.items) (U : Setup) (V : Whole) (s : Stands o r w U old V) where
+module _ {D S R W : Type 0} {d : disks.Ghosts D} (o : objects.Ghosts S R W) (r : reads.Ghosts R) (w : writes.Ghosts W) (old new : Core D S R W d w) (l : Label) (max i : ℕ) (within : i < 64) (rest : KeepsRest old new) (workers : new.workers.items ≡ old.workers.items) (U : Setup) (V : Whole) (s : Stands d o r w U old V) where
   -- a label that is missing, or has no stream
   abbrev pub poll_test : Option machine.Hand → Option Reply
   poll_test h = elim (option_and_then a_stream h) [ None ↦ bad_label | Some k ↦ None ]
 
-  pub poll_missing : hand_at (hands_of V (suc i)) l ≡ None → ChangesAt old.hands.items new.hands.items i KeepsHands → Goes o r w U old new V (suc i) (Event.Poll l max) (Reply.Refused Refusal.BadLabel)
+  pub poll_missing : hand_at (hands_of V (suc i)) l ≡ None → ChangesAt old.hands.items new.hands.items i KeepsHands → Goes d o r w U old new V (suc i) (Event.Poll l max) (Reply.Refused Refusal.BadLabel)
   poll_missing at hands = goes_refused o r w U old new V (suc i) (Event.Poll l max) (Reply.Refused Refusal.BadLabel) (stays_kept o r w old new l i within rest workers U V s hands) (ap poll_test at) refl refl
 
   module _ (x y : Stream R) (hands : ChangesAt old.hands.items new.hands.items i (SetsHand l (Hand.Reading x) (Hand.Reading y))) (m : machine.Stream) (at : hand_at (hands_of V (suc i)) l ≡ Some (machine.Hand.Reading m)) (fits : StreamFits r s.known old.names.next_id old.block m x) where
@@ -171,7 +172,7 @@ module _ {S R W : Type 0} (o : objects.Ghosts S R W) (r : reads.Ghosts R) (w : w
     some_b = subst (λ k. 0 < k) (sym fits.bs) old.blocks
 
     -- the stream stays as it was
-    kept : y ≡ x → Stands o r w U new V
+    kept : y ≡ x → Stands d o r w U new V
     kept same = stays_kept o r w old new l i within rest workers U V s (sets_same i l (Hand.Reading x) old.hands.items new.hands.items (subst (λ z. ChangesAt old.hands.items new.hands.items i (SetsHand l (Hand.Reading x) (Hand.Reading z))) same hands))
 
     passes : refusal U V.body H (Event.Poll l max) ≡ None
@@ -195,7 +196,7 @@ module _ {S R W : Type 0} (o : objects.Ghosts S R W) (r : reads.Ghosts R) (w : w
     upper = most m.bs (length m.bytes) m.at max
 
     -- an answer that leaves all as it was
-    idle : (reply : Reply) → y ≡ x → done_by upper ≡ (reply, H) → Goes o r w U old new V (suc i) (Event.Poll l max) reply
+    idle : (reply : Reply) → y ≡ x → done_by upper ≡ (reply, H) → Goes d o r w U old new V (suc i) (Event.Poll l max) reply
     idle reply same is = record {
       after = V;
       rise = no_rise;
@@ -214,13 +215,13 @@ module _ {S R W : Type 0} (o : objects.Ghosts S R W) (r : reads.Ghosts R) (w : w
     abbrev by_tests : ℕ → Bool → Bool → OwnOutcome
     by_tests n b c = cond b (Reply.End, H) (cond c (Reply.NeedsBlock (m.at / m.bs), H) (polled U (fault_free n) H l m))
 
-    pub poll_ended : x.len ≤ x.at → y ≡ x → Goes o r w U old new V (suc i) (Event.Poll l max) Reply.End
+    pub poll_ended : x.len ≤ x.at → y ≡ x → Goes d o r w U old new V (suc i) (Event.Poll l max) Reply.End
     poll_ended ended same = idle Reply.End same (ap (λ b. by_tests upper b (is_none m.source)) (le-leb (length m.bytes) m.at (omega (arith, ended, fits.len, fits.at))))
 
     before : x.at < x.len → nat_le (length m.bytes) m.at ≡ false
     before inside = lt-leb (length m.bytes) m.at (omega (arith, inside, fits.len, fits.at))
 
-    pub poll_needs : (k : ℕ) → x.at < x.len → due_of r x.source ≡ 0 → y ≡ x → (x.at / old.block < 2 ^ 32 → k ≡ x.at / old.block) → Goes o r w U old new V (suc i) (Event.Poll l max) (Reply.NeedsBlock k)
+    pub poll_needs : (k : ℕ) → x.at < x.len → due_of r x.source ≡ 0 → y ≡ x → (x.at / old.block < 2 ^ 32 → k ≡ x.at / old.block) → Goes d o r w U old new V (suc i) (Event.Poll l max) (Reply.NeedsBlock k)
     poll_needs k inside none same number = idle (Reply.NeedsBlock k) same
         (ap (λ b. by_tests upper b (is_none m.source)) (before inside)
         ∙ ap (λ q. by_tests upper false (is_none q)) (fits.source ∙ no_source x.source none fits.reader)
@@ -245,7 +246,7 @@ module _ {S R W : Type 0} (o : objects.Ghosts S R W) (r : reads.Ghosts R) (w : w
         block_is : k ≡ m.at / m.bs
         block_is = number few ∙ same_block_here
 
-    pub poll_gave : (bytes : List ℕ) → Reads r max x y (Gave.Given bytes) (length bytes) → Goes o r w U old new V (suc i) (Event.Poll l max) (Reply.Given bytes)
+    pub poll_gave : (bytes : List ℕ) → Reads r max x y (Gave.Given bytes) (length bytes) → Goes d o r w U old new V (suc i) (Event.Poll l max) (Reply.Given bytes)
     poll_gave bytes reads =
         let found = there_is (λ b. (b.failed ≡ false) × SourcePolls r max b y.source (Gave.Given bytes)) x.source reads.source in
         let b = found.0 in
@@ -283,7 +284,7 @@ module _ {S R W : Type 0} (o : objects.Ghosts S R W) (r : reads.Ghosts R) (w : w
     abbrev wait_test : Option machine.Hand → Bool
     wait_test h = nat_lt 0 1 && by_hand (λ k. reads_on k && device_choices wait_rise (fault_free 0) k) (option_and_then unbroken h)
 
-    pub poll_waited : Reads r max x y Gave.NotReady 0 → Goes o r w U old new V (suc i) (Event.Poll l max) Reply.NotReady
+    pub poll_waited : Reads r max x y Gave.NotReady 0 → Goes d o r w U old new V (suc i) (Event.Poll l max) Reply.NotReady
     poll_waited reads =
         let found = there_is (λ b. (b.failed ≡ false) × SourcePolls r max b y.source Gave.NotReady) x.source reads.source in
         let b = found.0 in
@@ -318,7 +319,7 @@ module _ {S R W : Type 0} (o : objects.Ghosts S R W) (r : reads.Ghosts R) (w : w
     abbrev fault_test : ℕ → Bool → Option machine.Hand → Bool
     fault_test v rises h = rises && by_hand (copy_may_fail remains (Device.TiersOf v)) (option_and_then unbroken h)
 
-    pub poll_failed : (v : ℕ) → Reads r max x y (Gave.Fault v) 0 → Goes o r w U old new V (suc i) (Event.Poll l max) (Reply.Refused (Refusal.TierFault v))
+    pub poll_failed : (v : ℕ) → Reads r max x y (Gave.Fault v) 0 → Goes d o r w U old new V (suc i) (Event.Poll l max) (Reply.Refused (Refusal.TierFault v))
     poll_failed v reads =
         let found = there_is (λ b. (b.failed ≡ false) × SourcePolls r max b y.source (Gave.Fault v)) x.source reads.source in
         let b = found.0 in
@@ -355,7 +356,7 @@ module _ {S R W : Type 0} (o : objects.Ghosts S R W) (r : reads.Ghosts R) (w : w
         failed_not f yes_ not_ = cc
 
   -- by what the label has, and what the poll gave
-  by_gave : (x y : Stream R) (gave : Gave) → ChangesAt old.hands.items new.hands.items i (SetsHand l (Hand.Reading x) (Hand.Reading y)) → (m : machine.Stream) → hand_at (hands_of V (suc i)) l ≡ Some (machine.Hand.Reading m) → StreamFits r s.known old.names.next_id old.block m x → PollOf r old.block max x y gave → Goes o r w U old new V (suc i) (Event.Poll l max) (reply_of gave)
+  by_gave : (x y : Stream R) (gave : Gave) → ChangesAt old.hands.items new.hands.items i (SetsHand l (Hand.Reading x) (Hand.Reading y)) → (m : machine.Stream) → hand_at (hands_of V (suc i)) l ≡ Some (machine.Hand.Reading m) → StreamFits r s.known old.names.next_id old.block m x → PollOf r old.block max x y gave → Goes d o r w U old new V (suc i) (Event.Poll l max) (reply_of gave)
   by_gave x y Gave.BadLabel hands m at fits p = absurd p
   by_gave x y Gave.End hands m at fits p = poll_ended x y hands m at fits p.0 p.1
   by_gave x y (Gave.NeedsBlock n) hands m at fits p = poll_needs x y hands m at fits n p.0 p.1 p.2 p.3
@@ -365,10 +366,10 @@ module _ {S R W : Type 0} (o : objects.Ghosts S R W) (r : reads.Ghosts R) (w : w
   by_gave x y Gave.Memory hands m at fits p = goes_short o r w U old new V (suc i) (Event.Poll l max) (kept x y hands m at fits p) refl
 
   -- where the label has a writer
-  poll_writer : (t : Hand R W) (m : machine.Writer) → hand_at (hands_of V (suc i)) l ≡ Some (machine.Hand.Writing m) → ChangesAt old.hands.items new.hands.items i (SetsHand l t t) → Goes o r w U old new V (suc i) (Event.Poll l max) (Reply.Refused Refusal.BadLabel)
+  poll_writer : (t : Hand R W) (m : machine.Writer) → hand_at (hands_of V (suc i)) l ≡ Some (machine.Hand.Writing m) → ChangesAt old.hands.items new.hands.items i (SetsHand l t t) → Goes d o r w U old new V (suc i) (Event.Poll l max) (Reply.Refused Refusal.BadLabel)
   poll_writer t m at hands = goes_refused o r w U old new V (suc i) (Event.Poll l max) (Reply.Refused Refusal.BadLabel) (stays_kept o r w old new l i within rest workers U V s (sets_same i l t old.hands.items new.hands.items hands)) (ap poll_test at) refl refl
 
-  by_hands : (t u : Hand R W) (gave : Gave) → ChangesAt old.hands.items new.hands.items i (SetsHand l t u) → (k : machine.Hand) → hand_at (hands_of V (suc i)) l ≡ Some k → Fits r w s.known old.workers.items old.names.next_id old.block (suc i, l) k t → HandPolls r old.block max t u gave → Goes o r w U old new V (suc i) (Event.Poll l max) (reply_of gave)
+  by_hands : (t u : Hand R W) (gave : Gave) → ChangesAt old.hands.items new.hands.items i (SetsHand l t u) → (k : machine.Hand) → hand_at (hands_of V (suc i)) l ≡ Some k → Fits r w s.known old.workers.items old.names.next_id old.block (suc i, l) k t → HandPolls r old.block max t u gave → Goes d o r w U old new V (suc i) (Event.Poll l max) (reply_of gave)
   by_hands (Hand.Reading x) (Hand.Reading y) gave hands (machine.Hand.Reading m) at fits p = by_gave x y gave hands m at fits p
   by_hands (Hand.Reading x) (Hand.Reading y) gave hands (machine.Hand.Writing m) at fits p = absurd fits
   by_hands (Hand.Reading x) (Hand.Reading y) gave hands (machine.Hand.Moving m) at fits p = absurd fits
@@ -376,23 +377,23 @@ module _ {S R W : Type 0} (o : objects.Ghosts S R W) (r : reads.Ghosts R) (w : w
   by_hands (Hand.Reading x) (Hand.Writing y) gave hands k at fits p = absurd p
   by_hands (Hand.Writing x) u gave hands (machine.Hand.Reading m) at fits p = absurd fits
   by_hands (Hand.Writing x) u gave hands (machine.Hand.Writing m) at fits p =
-      subst (λ g. Goes o r w U old new V (suc i) (Event.Poll l max) (reply_of g)) (sym p.1) (poll_writer (Hand.Writing x) m at (subst (λ k. ChangesAt old.hands.items new.hands.items i (SetsHand l (Hand.Writing x) k)) p.0 hands))
+      subst (λ g. Goes d o r w U old new V (suc i) (Event.Poll l max) (reply_of g)) (sym p.1) (poll_writer (Hand.Writing x) m at (subst (λ k. ChangesAt old.hands.items new.hands.items i (SetsHand l (Hand.Writing x) k)) p.0 hands))
   by_hands (Hand.Writing x) u gave hands (machine.Hand.Moving m) at fits p = absurd fits
   by_hands (Hand.Writing x) u gave hands (machine.Hand.Storing m) at fits p = absurd fits
 
-  pub polled_goes : (t u : Hand R W) (gave : Gave) → ChangesAt old.hands.items new.hands.items i (SetsHand l t u) → HandPolls r old.block max t u gave → Goes o r w U old new V (suc i) (Event.Poll l max) (reply_of gave)
+  pub polled_goes : (t u : Hand R W) (gave : Gave) → ChangesAt old.hands.items new.hands.items i (SetsHand l t u) → HandPolls r old.block max t u gave → Goes d o r w U old new V (suc i) (Event.Poll l max) (reply_of gave)
   polled_goes t u gave hands p =
       let found = fits_at r w s.known old.workers.items old.names.next_id old.block V.hands old.hands.items s.hands i within l t (set_there i l t u old.hands.items new.hands.items hands) in
       by_hands t u gave hands found.0 found.1 found.2 p
 
 -- ---- for any actor
 
-module _ {S R W : Type 0} (o : objects.Ghosts S R W) (r : reads.Ghosts R) (w : writes.Ghosts W) (old mid : Core S R W w) (who : ℕ) (actor : is_actor who ≡ true) (l : Label) (max : ℕ) (rest : KeepsRest old mid) (workers : mid.workers ≡ old.workers) where
-  pub poll_no_label : IsSomeAnd (slice_get old.hands.items (pred who)) (λ s. hand_in s l ≡ None) → ChangesAt old.hands.items mid.hands.items (pred who) KeepsHands → Steps o r w old mid who (Event.Poll l max) (Reply.Refused Refusal.BadLabel)
-  poll_no_label absent hands = by_actor (λ k. IsSomeAnd (slice_get old.hands.items (pred k)) (λ s. hand_in s l ≡ None) → ChangesAt old.hands.items mid.hands.items (pred k) KeepsHands → Steps o r w old mid k (Event.Poll l max) (Reply.Refused Refusal.BadLabel))
+module _ {D S R W : Type 0} {d : disks.Ghosts D} (o : objects.Ghosts S R W) (r : reads.Ghosts R) (w : writes.Ghosts W) (old mid : Core D S R W d w) (who : ℕ) (actor : is_actor who ≡ true) (l : Label) (max : ℕ) (rest : KeepsRest old mid) (workers : mid.workers ≡ old.workers) where
+  pub poll_no_label : IsSomeAnd (slice_get old.hands.items (pred who)) (λ s. hand_in s l ≡ None) → ChangesAt old.hands.items mid.hands.items (pred who) KeepsHands → Steps d o r w old mid who (Event.Poll l max) (Reply.Refused Refusal.BadLabel)
+  poll_no_label absent hands = by_actor (λ k. IsSomeAnd (slice_get old.hands.items (pred k)) (λ s. hand_in s l ≡ None) → ChangesAt old.hands.items mid.hands.items (pred k) KeepsHands → Steps d o r w old mid k (Event.Poll l max) (Reply.Refused Refusal.BadLabel))
       (λ i within absent hands. λ U V s. poll_missing o r w old mid l max i within rest (ap (λ x. x.items) workers) U V s (absent_at r w s.known old.workers.items old.names.next_id old.block V.hands old.hands.items s.hands i within l absent) hands) who actor absent hands
 
-  pub poll_label : (new : Core S R W w) (t u : Hand R W) (k : Label) (gave : Gave) (reply : Reply) → reply ≡ reply_of gave → k ≡ l → ChangesAt old.hands.items mid.hands.items (pred who) (EndsHand l t) → KeepsRest mid new → new.workers ≡ mid.workers → ChangesAt mid.hands.items new.hands.items (pred who) (AddsHand k u)
-      → HandPolls r mid.block max t u gave → Steps o r w old new who (Event.Poll l max) reply
-  poll_label new t u k gave reply is same ended more more_workers added p = by_actor (λ j. ChangesAt old.hands.items mid.hands.items (pred j) (EndsHand l t) → ChangesAt mid.hands.items new.hands.items (pred j) (AddsHand k u) → Steps o r w old new j (Event.Poll l max) reply)
-      (λ i within ended added. λ U V s. subst (λ a. Goes o r w U old new V (suc i) (Event.Poll l max) a) (sym is) (polled_goes o r w old new l max i within (rest_both rest more) (ap (λ x. x.items) (more_workers ∙ workers)) U V s t u gave (sets_hand i l k t u old.hands.items mid.hands.items new.hands.items same ended added) (subst (λ b. HandPolls r b max t u gave) rest.block p))) who actor ended added
+  pub poll_label : (new : Core D S R W d w) (t u : Hand R W) (k : Label) (gave : Gave) (reply : Reply) → reply ≡ reply_of gave → k ≡ l → ChangesAt old.hands.items mid.hands.items (pred who) (EndsHand l t) → KeepsRest mid new → new.workers ≡ mid.workers → ChangesAt mid.hands.items new.hands.items (pred who) (AddsHand k u)
+      → HandPolls r mid.block max t u gave → Steps d o r w old new who (Event.Poll l max) reply
+  poll_label new t u k gave reply is same ended more more_workers added p = by_actor (λ j. ChangesAt old.hands.items mid.hands.items (pred j) (EndsHand l t) → ChangesAt mid.hands.items new.hands.items (pred j) (AddsHand k u) → Steps d o r w old new j (Event.Poll l max) reply)
+      (λ i within ended added. λ U V s. subst (λ a. Goes d o r w U old new V (suc i) (Event.Poll l max) a) (sym is) (polled_goes o r w old new l max i within (rest_both rest more) (ap (λ x. x.items) (more_workers ∙ workers)) U V s t u gave (sets_hand i l k t u old.hands.items mid.hands.items new.hands.items same ended added) (subst (λ b. HandPolls r b max t u gave) rest.block p))) who actor ended added

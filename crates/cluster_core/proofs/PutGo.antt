@@ -24,6 +24,7 @@ use Rattle.fs_model.specs.Choices.{fault_free}
 use Rattle.fs_model.specs.Journaling.{fuse_serves}
 use Rattle.fs_model.specs.Machine.{refusal, accepted, own, hands_of, put_back}
 use Rattle.fs_model.specs.Step.{Step}
+use Rattle.outside.specs.declared.disk.Disk as disks
 use Rattle.outside.specs.declared.objects.Objects as objects
 use Rattle.outside.specs.declared.objects.ObjectRead as reads
 use Rattle.outside.specs.declared.objects.ObjectWrite as writes
@@ -312,12 +313,12 @@ module _ {T : Type 0} where
 
 -- ---- the event
 
-module _ {S R W : Type 0} (o : objects.Ghosts S R W) (r : reads.Ghosts R) (w : writes.Ghosts W) (old new : Core S R W w) (l : Label) (fill : Fill) (i : ℕ) (within : i < 64) (rest : KeepsRest old new) (workers : new.workers ≡ old.workers) (U : Setup) (V : Whole) (s : Stands o r w U old V) where
+module _ {D S R W : Type 0} {d : disks.Ghosts D} (o : objects.Ghosts S R W) (r : reads.Ghosts R) (w : writes.Ghosts W) (old new : Core D S R W d w) (l : Label) (fill : Fill) (i : ℕ) (within : i < 64) (rest : KeepsRest old new) (workers : new.workers ≡ old.workers) (U : Setup) (V : Whole) (s : Stands d o r w U old V) where
   -- where the event goes
   abbrev Leads : Reply → Type 0
-  Leads reply = Goes o r w U old new V (suc i) (Event.Put l fill) reply
+  Leads reply = Goes d o r w U old new V (suc i) (Event.Put l fill) reply
 
-  stands_still : ChangesAt old.hands.items new.hands.items i KeepsHands → Stands o r w U new V
+  stands_still : ChangesAt old.hands.items new.hands.items i KeepsHands → Stands d o r w U new V
   stands_still kept = stands_by o r w U new V s.known old.block old.area old.names old.workers.items new.hands.items rest.block rest.area rest.names (ap (λ x. x.items) workers) refl (record {
     setup = s.setup;
     named = s.names;
@@ -477,19 +478,19 @@ module _ {S R W : Type 0} (o : objects.Ghosts S R W) (r : reads.Ghosts R) (w : w
 
 -- ---- for an actor
 
-module _ {S R W : Type 0} (o : objects.Ghosts S R W) (r : reads.Ghosts R) (w : writes.Ghosts W) (old mid : Core S R W w) (l : Label) (fill : Fill) (who : ℕ) (actor : is_actor who ≡ true) (rest : KeepsRest old mid) (workers : mid.workers ≡ old.workers) where
+module _ {D S R W : Type 0} {d : disks.Ghosts D} (o : objects.Ghosts S R W) (r : reads.Ghosts R) (w : writes.Ghosts W) (old mid : Core D S R W d w) (l : Label) (fill : Fill) (who : ℕ) (actor : is_actor who ≡ true) (rest : KeepsRest old mid) (workers : mid.workers ≡ old.workers) where
   -- nothing was taken out
-  pub absent_by : IsSomeAnd (slice_get old.hands.items (pred who)) (λ a. hand_in a l ≡ None) → ChangesAt old.hands.items mid.hands.items (pred who) KeepsHands → Steps o r w old mid who (Event.Put l fill) (Reply.Refused Refusal.BadLabel)
-  absent_by none kept = by_actor (λ v. IsSomeAnd (slice_get old.hands.items (pred v)) (λ a. hand_in a l ≡ None) → ChangesAt old.hands.items mid.hands.items (pred v) KeepsHands → Steps o r w old mid v (Event.Put l fill) (Reply.Refused Refusal.BadLabel))
+  pub absent_by : IsSomeAnd (slice_get old.hands.items (pred who)) (λ a. hand_in a l ≡ None) → ChangesAt old.hands.items mid.hands.items (pred who) KeepsHands → Steps d o r w old mid who (Event.Put l fill) (Reply.Refused Refusal.BadLabel)
+  absent_by none kept = by_actor (λ v. IsSomeAnd (slice_get old.hands.items (pred v)) (λ a. hand_in a l ≡ None) → ChangesAt old.hands.items mid.hands.items (pred v) KeepsHands → Steps d o r w old mid v (Event.Put l fill) (Reply.Refused Refusal.BadLabel))
       (λ i within absent same U V s. put_absent o r w old mid l fill i within rest workers U V s absent same) who actor none kept
 
   -- a hand was taken out, and put back after a put
-  pub put_back_by : (new : Core S R W w) → KeepsRest mid new → new.workers ≡ mid.workers → (k : Label) (h t : Hand R W) → k ≡ l → ChangesAt old.hands.items mid.hands.items (pred who) (EndsHand l h) → ChangesAt mid.hands.items new.hands.items (pred who) (AddsHand k t)
-      → (end : PutEnd) → DidIn w mid.block fill end h t → (reply : Reply) → reply ≡ put_reply end → Steps o r w old new who (Event.Put l fill) reply
+  pub put_back_by : (new : Core D S R W d w) → KeepsRest mid new → new.workers ≡ mid.workers → (k : Label) (h t : Hand R W) → k ≡ l → ChangesAt old.hands.items mid.hands.items (pred who) (EndsHand l h) → ChangesAt mid.hands.items new.hands.items (pred who) (AddsHand k t)
+      → (end : PutEnd) → DidIn w mid.block fill end h t → (reply : Reply) → reply ≡ put_reply end → Steps d o r w old new who (Event.Put l fill) reply
   put_back_by new more still k h t same ended added end did reply is =
-      let both : KeepsRest old new = record { block = more.block ∙ rest.block; area = more.area ∙ rest.area; names = more.names ∙ rest.names; stores = more.stores ∙ rest.stores } in
+      let both : KeepsRest old new = record { block = more.block ∙ rest.block; area = more.area ∙ rest.area; names = more.names ∙ rest.names; areas = more.areas ∙ rest.areas; stores = more.stores ∙ rest.stores } in
       let here : DidIn w old.block fill end h t = subst (λ b. DidIn w b fill end h t) rest.block did in
-      subst (λ q. Steps o r w old new who (Event.Put l fill) q) (sym is)
-      (by_actor (λ v. ChangesAt old.hands.items new.hands.items (pred v) (SetsHand l h t) → Steps o r w old new v (Event.Put l fill) (put_reply end))
+      subst (λ q. Steps d o r w old new who (Event.Put l fill) q) (sym is)
+      (by_actor (λ v. ChangesAt old.hands.items new.hands.items (pred v) (SetsHand l h t) → Steps d o r w old new v (Event.Put l fill) (put_reply end))
       (λ i within change U V s. put_goes o r w old new l fill i within both (still ∙ workers) U V s h t end change here) who actor
       (sets_hand (pred who) l k h t old.hands.items mid.hands.items new.hands.items same ended added))

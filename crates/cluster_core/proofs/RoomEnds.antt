@@ -18,6 +18,7 @@ use Rattle.fs_model.specs.Faults.{Remains, BlockFate, Device, block_lost, block_
 use Rattle.fs_model.specs.Machine.{refusal, hands_of, put_back}
 use Rattle.fs_model.specs.Step.{Step, ShortOf}
 use Rattle.inode_tree.specs.Rows.{file_row}
+use Rattle.outside.specs.declared.disk.Disk as disks
 use Rattle.outside.specs.declared.objects.Objects as objects
 use Rattle.outside.specs.declared.objects.ObjectRead as reads
 use Rattle.outside.specs.declared.objects.ObjectWrite as writes
@@ -102,7 +103,7 @@ module _ (U : Setup) (A : State) (m : machine.Writer) where
     pub left_by : (fate : BlockFate) → (let k : machine.Writer = record m { broken = true; block = cond (keeps_block (begun_as fate) A m) m.block None } in k) ≡ (let k : machine.Writer = record m { broken = true; block = None } in k)
     left_by fate = ap (λ b. record m { broken = true; block = cond (not (true && b) && false) m.block None }) stands
 
-module _ {S R W : Type 0} (o : objects.Ghosts S R W) (r : reads.Ghosts R) (w : writes.Ghosts W) (was new : Core S R W w) (l : Label) (i : ℕ) (within : i < 64) (x : Writer W) (whole : x.broken ≡ false) (U : Setup) (V : Whole) (s : Stands o r w U was V) (m : machine.Writer) (at : hand_at (hands_of V (suc i)) l ≡ Some (machine.Hand.Writing m)) (f : WriterFits w s.known was.workers.items was.names.next_id was.block (suc i, l) m x) (rest : KeepsRest was new) (passes : room_test was.names.nodes was.workers.items was.block x ≡ None) (wanted : wants_room x.bytes ≡ true) where
+module _ {D S R W : Type 0} {d : disks.Ghosts D} (o : objects.Ghosts S R W) (r : reads.Ghosts R) (w : writes.Ghosts W) (was new : Core D S R W d w) (l : Label) (i : ℕ) (within : i < 64) (x : Writer W) (whole : x.broken ≡ false) (U : Setup) (V : Whole) (s : Stands d o r w U was V) (m : machine.Writer) (at : hand_at (hands_of V (suc i)) l ≡ Some (machine.Hand.Writing m)) (f : WriterFits w s.known was.workers.items was.names.next_id was.block (suc i, l) m x) (rest : KeepsRest was new) (passes : room_test was.names.nodes was.workers.items was.block x ≡ None) (wanted : wants_room x.bytes ≡ true) where
   -- what the tests say
   all_pass : (refuse Refusal.NotFound (is_none (file_row was.names.nodes x.file)) ≡ None) × (past Which.Blocks (wants_room x.bytes && nat_le 65536 (block_count x.bytes.len was.block)) ≡ None) × (past Which.Ids (wants_room x.bytes && nat_le (2 ^ 63) (next_of (at_number was.workers.items x.worker))) ≡ None) × (refuse (Refusal.NoWorker x.worker) (not (runs_here was.workers.items x.worker x.started)) ≡ None) × (refuse (Refusal.NoRoom x.worker) (wants_room x.bytes && lacks_room x.bytes.bs (at_number was.workers.items x.worker)) ≡ None)
   all_pass = five_pass (refuse Refusal.NotFound (is_none (file_row was.names.nodes x.file))) (past Which.Blocks (wants_room x.bytes && nat_le 65536 (block_count x.bytes.len was.block))) (past Which.Ids (wants_room x.bytes && nat_le (2 ^ 63) (next_of (at_number was.workers.items x.worker)))) (refuse (Refusal.NoWorker x.worker) (not (runs_here was.workers.items x.worker x.started))) (refuse (Refusal.NoRoom x.worker) (wants_room x.bytes && lacks_room x.bytes.bs (at_number was.workers.items x.worker))) passes
@@ -145,7 +146,7 @@ module _ {S R W : Type 0} (o : objects.Ghosts S R W) (r : reads.Ghosts R) (w : w
 
   -- ---- the block was committed, and memory was short
 
-  pub room_closed : AfterCommit o U V.body m s.known after_known (suc i, l) was.workers.items new.workers.items was.names.next_id was.block was.area → ChangesAt was.hands.items new.hands.items i (SetsHand l (Hand.Writing x) (Hand.Writing (closed_writer false x))) → Goes o r w U was new V (suc i) (Event.Room l) (Reply.Refused Refusal.Memory)
+  pub room_closed : AfterCommit o U V.body m s.known after_known (suc i, l) was.workers.items new.workers.items was.names.next_id was.block was.area → ChangesAt was.hands.items new.hands.items i (SetsHand l (Hand.Writing x) (Hand.Writing (closed_writer false x))) → Goes d o r w U was new V (suc i) (Event.Room l) (Reply.Refused Refusal.Memory)
   room_closed parts hands =
       let H = hands_of V (suc i) in
       let B = close_block U V.body m in
@@ -191,7 +192,7 @@ module _ {S R W : Type 0} (o : objects.Ghosts S R W) (r : reads.Ghosts R) (w : w
   left = record m { broken = true; block = None }
 
   -- the block was committed, and the next one got no room
-  pub room_failed : AfterCommit o U V.body m s.known after_known (suc i, l) was.workers.items new.workers.items was.names.next_id was.block was.area → ChangesAt was.hands.items new.hands.items i (SetsHand l (Hand.Writing x) (Hand.Writing (closed_writer true x))) → (t : ℕ) → TierRose o r w was new x.worker t → Goes o r w U was new V (suc i) (Event.Room l) (Reply.Refused (Refusal.TierFault x.worker))
+  pub room_failed : AfterCommit o U V.body m s.known after_known (suc i, l) was.workers.items new.workers.items was.names.next_id was.block was.area → ChangesAt was.hands.items new.hands.items i (SetsHand l (Hand.Writing x) (Hand.Writing (closed_writer true x))) → (t : ℕ) → TierRose o r w was new x.worker t → Goes d o r w U was new V (suc i) (Event.Room l) (Reply.Refused (Refusal.TierFault x.worker))
   room_failed parts hands t rose_there =
       let H = hands_of V (suc i) in
       let B = close_block U V.body m in

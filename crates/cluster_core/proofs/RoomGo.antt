@@ -17,6 +17,7 @@ use Rattle.fs_model.specs.Choices.{fault_free}
 use Rattle.fs_model.specs.Journaling.{fuse_serves}
 use Rattle.fs_model.specs.Machine.{refusal, accepted, hands_of}
 use Rattle.fs_model.specs.Step.{Step}
+use Rattle.outside.specs.declared.disk.Disk as disks
 use Rattle.outside.specs.declared.objects.Objects as objects
 use Rattle.outside.specs.declared.objects.ObjectRead as reads
 use Rattle.outside.specs.declared.objects.ObjectWrite as writes
@@ -59,7 +60,7 @@ pub there_some : {X : Type 0} (y : Option X) → is_none y ≡ false → IsSome 
 there_some None h = absurd (cc)
 there_some (Some x) h = refl
 
-module _ {S R W : Type 0} (o : objects.Ghosts S R W) (r : reads.Ghosts R) (w : writes.Ghosts W) (was : Core S R W w) (l : Label) (i : ℕ) (within : i < 64) (x : Writer W) (whole : x.broken ≡ false) (U : Setup) (V : Whole) (s : Stands o r w U was V) (m : machine.Writer) (at : hand_at (hands_of V (suc i)) l ≡ Some (machine.Hand.Writing m)) (f : WriterFits w s.known was.workers.items was.names.next_id was.block (suc i, l) m x) where
+module _ {D S R W : Type 0} {d : disks.Ghosts D} (o : objects.Ghosts S R W) (r : reads.Ghosts R) (w : writes.Ghosts W) (was : Core D S R W d w) (l : Label) (i : ℕ) (within : i < 64) (x : Writer W) (whole : x.broken ≡ false) (U : Setup) (V : Whole) (s : Stands d o r w U was V) (m : machine.Writer) (at : hand_at (hands_of V (suc i)) l ≡ Some (machine.Hand.Writing m)) (f : WriterFits w s.known was.workers.items was.names.next_id was.block (suc i, l) m x) where
   -- the label's writer on the machine's side
   pub writer_is : writer_at (hands_of V (suc i)) l ≡ Some m
   writer_is = ap (option_and_then unbroken_writer) at ∙ ap (λ b. cond b None (Some m)) (f.broken ∙ whole)
@@ -71,17 +72,17 @@ module _ {S R W : Type 0} (o : objects.Ghosts S R W) (r : reads.Ghosts R) (w : w
 
   -- ---- nothing happens
 
-  module _ (new : Core S R W w) (rest : KeepsRest was new) (workers : new.workers ≡ was.workers) (hands : ChangesAt was.hands.items new.hands.items i (SetsHand l (Hand.Writing x) (Hand.Writing x))) where
-    still : Stands o r w U new V
+  module _ (new : Core D S R W d w) (rest : KeepsRest was new) (workers : new.workers ≡ was.workers) (hands : ChangesAt was.hands.items new.hands.items i (SetsHand l (Hand.Writing x) (Hand.Writing x))) where
+    still : Stands d o r w U new V
     still = stands_kept o r w U V was new i within rest workers (keeps_same i l (Hand.Writing x) (Hand.Writing x) was.hands.items new.hands.items refl hands) s
 
-    pub room_refused : (why : Refusal) → Some (Reply.Refused why) ≡ room_test was.names.nodes was.workers.items was.block x → Goes o r w U was new V (suc i) (Event.Room l) (Reply.Refused why)
+    pub room_refused : (why : Refusal) → Some (Reply.Refused why) ≡ room_test was.names.nodes was.workers.items was.block x → Goes d o r w U was new V (suc i) (Event.Room l) (Reply.Refused why)
     room_refused why h = goes_refused o r w U was new V (suc i) (Event.Room l) (Reply.Refused why) still (refusal_is ∙ sym h) refl refl
 
-    pub room_short : Goes o r w U was new V (suc i) (Event.Room l) (Reply.Refused Refusal.Memory)
+    pub room_short : Goes d o r w U was new V (suc i) (Event.Room l) (Reply.Refused Refusal.Memory)
     room_short = goes_short o r w U was new V (suc i) (Event.Room l) still refl
 
-    pub room_same : room_test was.names.nodes was.workers.items was.block x ≡ None → wants_room x.bytes ≡ false → Goes o r w U was new V (suc i) (Event.Room l) Reply.Done
+    pub room_same : room_test was.names.nodes was.workers.items was.block x ≡ None → wants_room x.bytes ≡ false → Goes d o r w U was new V (suc i) (Event.Room l) Reply.Done
     room_same passes wanted =
         let H = hands_of V (suc i) in
         let wants : block_wanted m.bs m.block ≡ false = wanted_is o w U V.body was.names was.workers.items was.block was.area was.names.next_id s.known (suc i, l) s.names s.workers s.setup s.objects was.small m x f whole ∙ wanted in

@@ -16,6 +16,7 @@ use Rattle.fs_model.specs.BytesOutcomes.{BodyAndHands, close_block, room_to_litt
 use Rattle.fs_model.specs.Faults.{BlockFate, writer_after_fault}
 use Rattle.fs_model.specs.Machine.{hands_of, put_back}
 use Rattle.fs_model.specs.Step.{Step}
+use Rattle.outside.specs.declared.disk.Disk as disks
 use Rattle.outside.specs.declared.objects.Objects as objects
 use Rattle.outside.specs.declared.objects.ObjectRead as reads
 use Rattle.outside.specs.declared.objects.ObjectWrite as writes
@@ -88,7 +89,7 @@ use Rattle.inode_tree.specs.Rows.{file_row}
 use Rattle.fs_model.specs.BytesEvents.{writer_stands}
 use Rattle.cluster_core.proofs.LostBlock.{lost_known, lost_rows, lost_leaves, lost_nodes, lost_rose, lost_tier}
 
-module _ {S R W : Type 0} (o : objects.Ghosts S R W) (r : reads.Ghosts R) (w : writes.Ghosts W) (was new : Core S R W w) (l : Label) (i : ℕ) (within : i < 64) (x : Writer W) (whole : x.broken ≡ false) (U : Setup) (V : Whole) (s : Stands o r w U was V) (m : machine.Writer) (at : hand_at (hands_of V (suc i)) l ≡ Some (machine.Hand.Writing m)) (f : WriterFits w s.known was.workers.items was.names.next_id was.block (suc i, l) m x) (rest : KeepsRest was new) (passes : room_test was.names.nodes was.workers.items was.block x ≡ None) (wanted : wants_room x.bytes ≡ true) where
+module _ {D S R W : Type 0} {d : disks.Ghosts D} (o : objects.Ghosts S R W) (r : reads.Ghosts R) (w : writes.Ghosts W) (was new : Core D S R W d w) (l : Label) (i : ℕ) (within : i < 64) (x : Writer W) (whole : x.broken ≡ false) (U : Setup) (V : Whole) (s : Stands d o r w U was V) (m : machine.Writer) (at : hand_at (hands_of V (suc i)) l ≡ Some (machine.Hand.Writing m)) (f : WriterFits w s.known was.workers.items was.names.next_id was.block (suc i, l) m x) (rest : KeepsRest was new) (passes : room_test was.names.nodes was.workers.items was.block x ≡ None) (wanted : wants_room x.bytes ≡ true) where
   -- the worker's node
   node_of : (x' : Option (Node S)) → by_node (λ n. n.running && nat_eq n.started x.started) x' ≡ true → (a : Node S) × (x' ≡ Some a)
   node_of None h = absurd (cc)
@@ -282,7 +283,7 @@ module _ {S R W : Type 0} (o : objects.Ghosts S R W) (r : reads.Ghosts R) (w : w
             owner_is : (opened_known k).owner y.worker k ≡ Some (suc i, l)
             owner_is = ap (λ v. (opened_known k).owner v k) (ap (λ z. z.worker) opens.fields ∙ at_place) ∙ ap₂ (λ b c. cond (b && c) (Some (suc i, l)) ((without_owner x.worker x.room s.known).owner (suc (pred x.worker)) k)) (eq-eqb (suc (pred x.worker)) (suc (pred x.worker)) refl) (eq-eqb k k refl)
 
-        pub room_opened : Goes o r w U was new V (suc i) (Event.Room l) Reply.Done
+        pub room_opened : Goes d o r w U was new V (suc i) (Event.Room l) Reply.Done
         room_opened =
             let H = hands_of V (suc i) in
             let B = take_room (placed U A1 m.worker None m.bs) m.worker m.bs A1 in
@@ -353,7 +354,7 @@ module _ {S R W : Type 0} (o : objects.Ghosts S R W) (r : reads.Ghosts R) (w : w
     its_file : IsSome (file_row was.names.nodes x.file)
     its_file = file o r w was new l i within x whole U V s m at f rest passes wanted
 
-    pub room_lost : ChangesAt was.hands.items new.hands.items i (SetsHand l (Hand.Writing x) (Hand.Writing (closed_writer true x))) → Goes o r w U was new V (suc i) (Event.Room l) (Reply.Refused (Refusal.TierFault x.worker))
+    pub room_lost : ChangesAt was.hands.items new.hands.items i (SetsHand l (Hand.Writing x) (Hand.Writing (closed_writer true x))) → Goes d o r w U was new V (suc i) (Event.Room l) (Reply.Refused (Refusal.TierFault x.worker))
     room_lost hands =
         let H = hands_of V (suc i) in
         let B = change_worker m.worker (room_to_litter n) V.body in

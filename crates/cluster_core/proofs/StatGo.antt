@@ -21,6 +21,7 @@ use Rattle.fs_model.specs.Machine.{accepted, hands_of}
 use Rattle.fs_model.specs.Step.{Step}
 use Rattle.inode_tree.specs.declared.row.Row.{Row}
 use Rattle.inode_tree.specs.Rows.{node_of, node_if, file_in_row}
+use Rattle.outside.specs.declared.disk.Disk as disks
 use Rattle.outside.specs.declared.objects.Objects as objects
 use Rattle.outside.specs.declared.objects.ObjectRead as reads
 use Rattle.outside.specs.declared.objects.ObjectWrite as writes
@@ -36,14 +37,14 @@ use Rattle.cluster_core.proofs.Standing.{put_same, goes_refused}
 use Rattle.cluster_core.proofs.Rows.{node_of_all}
 use Rattle.cluster_core.proofs.LiveHere.{lacks_is, awaits_none}
 
-module _ {S R W : Type 0} (o : objects.Ghosts S R W) (r : reads.Ghosts R) (w : writes.Ghosts W) (old : Core S R W w) (who : ℕ) (p : Path) where
+module _ {D S R W : Type 0} {d : disks.Ghosts D} (o : objects.Ghosts S R W) (r : reads.Ghosts R) (w : writes.Ghosts W) (old : Core D S R W d w) (who : ℕ) (p : Path) where
   -- where the walk leads to no node
-  pub stat_lost : (k : machine.Walk) (why : Refusal) → k ≡ walk_nodes old.names.nodes p → walk_fault k ≡ Some (Reply.Refused why) → Steps o r w old old who (Event.Stat p) (Reply.Refused why)
+  pub stat_lost : (k : machine.Walk) (why : Refusal) → k ≡ walk_nodes old.names.nodes p → walk_fault k ≡ Some (Reply.Refused why) → Steps d o r w old old who (Event.Stat p) (Reply.Refused why)
   stat_lost k why leads fault = λ U V s. goes_refused o r w U old old V who (Event.Stat p) (Reply.Refused why) s (stat_refusal U old.names V.body (hands_of V who) p s.names ∙ ap (λ x. first (x ∷ [])) (ap walk_fault (sym leads) ∙ fault)) refl refl
 
   -- where it leads to a node, of which this is shown
   stat_shown : (n : Node) (reply : Reply) → machine.Walk.Found n ≡ walk_nodes old.names.nodes p → find_node old.names.nodes p ≡ Some n
-      → ((U : Setup) (V : Whole) → Stands o r w U old V → reply ≡ stat_of U V.body (file_in n)) → Steps o r w old old who (Event.Stat p) reply
+      → ((U : Setup) (V : Whole) → Stands d o r w U old V → reply ≡ stat_of U V.body (file_in n)) → Steps d o r w old old who (Event.Stat p) reply
   stat_shown n reply leads found is = λ U V s.
       let H = hands_of V who in
       let passes : stat_test old.names p ≡ None = ap (λ x. first (x ∷ [])) (ap walk_fault (sym leads)) in
@@ -63,7 +64,7 @@ module _ {S R W : Type 0} (o : objects.Ghosts S R W) (r : reads.Ghosts R) (w : w
         };
       }
 
-  pub stat_dir : (row : Row) → machine.Walk.Found (node_of row) ≡ walk_nodes old.names.nodes p → find_node old.names.nodes p ≡ Some (node_of row) → row.dir ≡ true → Steps o r w old old who (Event.Stat p) Reply.StatDir
+  pub stat_dir : (row : Row) → machine.Walk.Found (node_of row) ≡ walk_nodes old.names.nodes p → find_node old.names.nodes p ≡ Some (node_of row) → row.dir ≡ true → Steps d o r w old old who (Event.Stat p) Reply.StatDir
   stat_dir row leads found dir = stat_shown (node_of row) Reply.StatDir leads found (λ U V s. sym (ap (λ d. stat_of U V.body (file_in (node_if d (file_in_row row)))) dir))
 
   -- a done file is short
@@ -71,13 +72,13 @@ module _ {S R W : Type 0} (o : objects.Ghosts S R W) (r : reads.Ghosts R) (w : w
   short_file K contents next bs f fits done = (fits.2 done).short
 
   -- the state that the machine shows
-  state_is : (U : Setup) (V : Whole) (s : Stands o r w U old V) (f : File) → state_here old.workers.items old.block f ≡ state_of U V.body f
+  state_is : (U : Setup) (V : Whole) (s : Stands d o r w U old V) (f : File) → state_here old.workers.items old.block f ≡ state_of U V.body f
   state_is U V s f =
       ap (λ b. cond f.done (state_by_stored f.stored b) FileState.Incomplete)
       (sym (ap (λ x. is_none x && lacks_some U V.body f) (awaits_none V.body old.workers.items s.workers) ∙ lacks_is V.body old.workers.items s.workers U old.block f s.setup.block))
 
   pub stat_file : (row : Row) (state : FileState) → machine.Walk.Found (node_of row) ≡ walk_nodes old.names.nodes p → find_node old.names.nodes p ≡ Some (node_of row) → row.dir ≡ false
-      → ((row.done ≡ true → row.len ≤ 65536 * old.block) → state ≡ state_here old.workers.items old.block (file_in_row row)) → Steps o r w old old who (Event.Stat p) (Reply.StatFile row.id row.len state row.pinned)
+      → ((row.done ≡ true → row.len ≤ 65536 * old.block) → state ≡ state_here old.workers.items old.block (file_in_row row)) → Steps d o r w old old who (Event.Stat p) (Reply.StatFile row.id row.len state row.pinned)
   stat_file row state leads found file is = stat_shown (node_of row) (Reply.StatFile row.id row.len state row.pinned) leads found (λ U V s.
       let f = file_in_row row in
       let at : find_node old.names.nodes p ≡ Some (Node.IsFile f) = found ∙ ap (λ d. Some (node_if d f)) file in

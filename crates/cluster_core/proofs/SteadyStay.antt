@@ -13,6 +13,7 @@ use Rattle.fs_model.specs.State.{NodeRow}
 use Rattle.fs_model.specs.Words.{name_eq}
 use Rattle.outside.specs.Causes.{Rose}
 use Rattle.outside.specs.declared.media.Media.{Media}
+use Rattle.outside.specs.declared.disk.Disk as disks
 use Rattle.outside.specs.declared.objects.Objects as objects
 use Rattle.outside.specs.declared.objects.ObjectRead as reads
 use Rattle.outside.specs.declared.objects.ObjectWrite as writes
@@ -240,37 +241,37 @@ module _ {R W : Type 0} (r : reads.Ghosts R) (w : writes.Ghosts W) where
 
 -- ---- cores
 
-module _ {S R W : Type 0} (o : objects.Ghosts S R W) (r : reads.Ghosts R) (w : writes.Ghosts W) where
+module _ {D S R W : Type 0} {d : disks.Ghosts D} (o : objects.Ghosts S R W) (r : reads.Ghosts R) (w : writes.Ghosts W) where
   -- neither workers nor labels changed
-  pub steady_same : {a b : Core S R W w} → b.workers ≡ a.workers → b.hands ≡ a.hands → IsSteady o r w a → IsSteady o r w b
+  pub steady_same : {a b : Core D S R W d w} → b.workers ≡ a.workers → b.hands ≡ a.hands → IsSteady d o r w a → IsSteady d o r w b
   steady_same {a} {b} workers hands steady = record {
     tiers = subst (λ v. TiersSteady o v.items) (sym workers) steady.tiers;
     hands = subst (λ v. HandsSteady r w v.items) (sym hands) steady.hands;
   }
 
   -- media stay, and what is under labels stays steady
-  pub steady_by : {a b : Core S R W w} → MediaStays o a b → (HandsSteady r w a.hands.items → HandsSteady r w b.hands.items) → IsSteady o r w a → IsSteady o r w b
+  pub steady_by : {a b : Core D S R W d w} → MediaStays d o a b → (HandsSteady r w a.hands.items → HandsSteady r w b.hands.items) → IsSteady d o r w a → IsSteady d o r w b
   steady_by {a} {b} media hands steady = record {
     tiers = tiers_after o a.workers.items b.workers.items media.workers steady.tiers;
     hands = hands steady.hands;
   }
 
   -- so it is where no label changed
-  pub steady_still : {a b : Core S R W w} → MediaStays o a b → b.hands ≡ a.hands → IsSteady o r w a → IsSteady o r w b
+  pub steady_still : {a b : Core D S R W d w} → MediaStays d o a b → b.hands ≡ a.hands → IsSteady d o r w a → IsSteady d o r w b
   steady_still {a} {b} media same = steady_by media (subst (λ v. HandsSteady r w v.items) (sym same))
 
   -- a label kept what it had, got something, or lost it; and the workers are as they were
-  pub steady_kept : {a b : Core S R W w} (i : ℕ) → KeepsRest a b → b.workers ≡ a.workers → ChangesAt a.hands.items b.hands.items i KeepsHands → IsSteady o r w a → IsSteady o r w b
+  pub steady_kept : {a b : Core D S R W d w} (i : ℕ) → KeepsRest a b → b.workers ≡ a.workers → ChangesAt a.hands.items b.hands.items i KeepsHands → IsSteady d o r w a → IsSteady d o r w b
   steady_kept {a} {b} i rest workers change = steady_by (media_kept o rest workers) (hands_kept r w a.hands.items b.hands.items i change)
 
-  pub steady_ended : {a b : Core S R W w} (i : ℕ) (l : List ℕ) (t : Hand R W) → KeepsRest a b → b.workers ≡ a.workers → ChangesAt a.hands.items b.hands.items i (EndsHand l t) → IsSteady o r w a → IsSteady o r w b
+  pub steady_ended : {a b : Core D S R W d w} (i : ℕ) (l : List ℕ) (t : Hand R W) → KeepsRest a b → b.workers ≡ a.workers → ChangesAt a.hands.items b.hands.items i (EndsHand l t) → IsSteady d o r w a → IsSteady d o r w b
   steady_ended {a} {b} i l t rest workers change = steady_by (media_kept o rest workers) (hands_ended r w a.hands.items b.hands.items i l t change)
 
-  pub steady_added : {a b : Core S R W w} (i : ℕ) (l : List ℕ) (t : Hand R W) → KeepsRest a b → b.workers ≡ a.workers → ChangesAt a.hands.items b.hands.items i (AddsHand l t) → IsHandSteady r w t → IsSteady o r w a → IsSteady o r w b
+  pub steady_added : {a b : Core D S R W d w} (i : ℕ) (l : List ℕ) (t : Hand R W) → KeepsRest a b → b.workers ≡ a.workers → ChangesAt a.hands.items b.hands.items i (AddsHand l t) → IsHandSteady r w t → IsSteady d o r w a → IsSteady d o r w b
   steady_added {a} {b} i l t rest workers change good = steady_by (media_kept o rest workers) (hands_added r w a.hands.items b.hands.items i l t change good)
 
   -- a core without labels over steady tiers
-  pub first_steady : (core : Core S R W w) (m : Media S) → map (λ n. n.tiers) core.workers.items ≡ m.tiers.items → All HasNone core.hands.items → MediaSteady o m → IsSteady o r w core
+  pub first_steady : (core : Core D S R W d w) (m : Media D S) → map (λ n. n.tiers) core.workers.items ≡ m.tiers.items → All HasNone core.hands.items → MediaSteady o m → IsSteady d o r w core
   first_steady core m over none good = record {
     tiers = λ i t n s at in_tier.
         let held : slice_get m.tiers.items i ≡ Some n.tiers = ap (λ l. slice_get l i) (sym over) ∙ slice_get-map (λ (n : Node S). n.tiers) core.workers.items i ∙ ap (option_map (λ (n : Node S). n.tiers)) at in
@@ -310,25 +311,26 @@ module _ {S R W : Type 0} (o : objects.Ghosts S R W) (r : reads.Ghosts R) (w : w
   under_not s (Hand.Writing x) (Hand.Reading y) rose steady = absurd rose
   under_not s (Hand.Reading x) k rose steady = absurd rose
 
+module _ {D S R W : Type 0} {d : disks.Ghosts D} (o : objects.Ghosts S R W) (r : reads.Ghosts R) (w : writes.Ghosts W) where
   -- so it is under a label
-  label_not : (P : Hand R W → Hand R W → Type 0) → ((h k : Hand R W) → P h k → IsHandSteady r w h → ⊥) → (old new : Core S R W w) (who : ℕ) (l : List ℕ) → AtLabel o r w old new who l P → IsSteady o r w old → ⊥
+  label_not : (P : Hand R W → Hand R W → Type 0) → ((h k : Hand R W) → P h k → IsHandSteady r w h → ⊥) → (old new : Core D S R W d w) (who : ℕ) (l : List ℕ) → AtLabel o r w old new who l P → IsSteady d o r w old → ⊥
   label_not P gives old new who l at steady =
       let rows = both_there (slice_get old.hands.items (pred who)) (slice_get new.hands.items (pred who)) at in
       let was = there_is (λ h. IsSomeAnd (hand_in rows.1 l) (λ k. P h k)) (hand_in rows.0 l) rows.4 in
       let now = there (hand_in rows.1 l) was.2 in
       gives was.0 now.0 now.1 (steady.hands (pred who) l rows.0 was.0 rows.2 was.1)
 
-  pub hand_rose_not : (old new : Core S R W w) (who v : ℕ) (l : List ℕ) → AtLabel o r w old new who l (HandRose o r w v) → IsSteady o r w old → ⊥
-  hand_rose_not old new who v l = label_not (HandRose o r w v) (rose_not v) old new who l
+  pub hand_rose_not : (old new : Core D S R W d w) (who v : ℕ) (l : List ℕ) → AtLabel o r w old new who l (HandRose o r w v) → IsSteady d o r w old → ⊥
+  hand_rose_not old new who v l = label_not (HandRose o r w v) (rose_not o r w v) old new who l
 
-  pub hand_waited_not : (old new : Core S R W w) (who v : ℕ) (l : List ℕ) → AtLabel o r w old new who l (HandWaited o r w v) → IsSteady o r w old → ⊥
-  hand_waited_not old new who v l = label_not (HandWaited o r w v) (waited_not v) old new who l
+  pub hand_waited_not : (old new : Core D S R W d w) (who v : ℕ) (l : List ℕ) → AtLabel o r w old new who l (HandWaited o r w v) → IsSteady d o r w old → ⊥
+  hand_waited_not old new who v l = label_not (HandWaited o r w v) (waited_not o r w v) old new who l
 
   -- over steady media nothing but a tier's own count is the cause of a fault, and nothing waits
-  pub caused_by_tier : (old new : Core S R W w) (who : ℕ) (e : Event) (reply : Reply) → IsSteady o r w old → IsCaused o r w old new who e reply → OnlyTier (TierCounted o old new) reply
+  pub caused_by_tier : (old new : Core D S R W d w) (who : ℕ) (e : Event) (reply : Reply) → IsSteady d o r w old → IsCaused d o r w old new who e reply → OnlyTier (TierCounted o old new) reply
   caused_by_tier old new who e (Reply.Refused (Refusal.TierFault v)) steady (inl counted) = counted
   caused_by_tier old new who e (Reply.Refused (Refusal.TierFault v)) steady (inr h) = absurd (hand_rose_not old new who v h.0 h.2 steady)
-  caused_by_tier old new who e (Reply.Refused (Refusal.UnderFault s)) steady h = absurd (label_not (UnderRose o r w s) (under_not s) old new who h.0 h.2 steady)
+  caused_by_tier old new who e (Reply.Refused (Refusal.UnderFault s)) steady h = absurd (label_not (UnderRose o r w s) (under_not o r w s) old new who h.0 h.2 steady)
   caused_by_tier old new who e (Reply.Refused Refusal.JournalFault) steady h = absurd h
   caused_by_tier old new who e Reply.NotReady steady h = absurd (hand_waited_not old new who h.0 h.1 h.3 steady)
   caused_by_tier old new who e reply steady h = tt

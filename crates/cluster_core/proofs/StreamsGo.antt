@@ -12,6 +12,7 @@ use Rattle.fs_model.specs.Updates.{set_hand}
 use Rattle.fs_model.specs.Machine.{hands_of, put_back}
 use Rattle.fs_model.specs.Faults.{rose, Device}
 use Rattle.fs_model.specs.BytesOutcomes.{block_end}
+use Rattle.outside.specs.declared.disk.Disk as disks
 use Rattle.outside.specs.declared.objects.Objects as objects
 use Rattle.outside.specs.declared.objects.ObjectRead as reads
 use Rattle.outside.specs.declared.objects.ObjectWrite as writes
@@ -61,9 +62,9 @@ at_set {T} P i l t u old new c p = by_cases (slice_get old i) (slice_get new i) 
     by_cases (Some a) None g = absurd g
     by_cases (Some a) (Some b) g = both (hand_in a l) (hand_in b l) g.there (g.hands l ∙ ap (λ k. cond k (Some u) (hand_in a l)) (like_itself l))
 
-module _ {S R W : Type 0} (o : objects.Ghosts S R W) (r : reads.Ghosts R) (w : writes.Ghosts W) (old new : Core S R W w) (l : Label) (i : ℕ) (within : i < 64) (rest : KeepsRest old new) (workers : new.workers.items ≡ old.workers.items) (U : Setup) (V : Whole) (s : Stands o r w U old V) where
+module _ {D S R W : Type 0} {d : disks.Ghosts D} (o : objects.Ghosts S R W) (r : reads.Ghosts R) (w : writes.Ghosts W) (old new : Core D S R W d w) (l : Label) (i : ℕ) (within : i < 64) (rest : KeepsRest old new) (workers : new.workers.items ≡ old.workers.items) (U : Setup) (V : Whole) (s : Stands d o r w U old V) where
   -- the core stands for the same state where no label changes
-  pub stays_kept : ChangesAt old.hands.items new.hands.items i KeepsHands → Stands o r w U new V
+  pub stays_kept : ChangesAt old.hands.items new.hands.items i KeepsHands → Stands d o r w U new V
   stays_kept hands = stands_by o r w U new V s.known old.block old.area old.names old.workers.items new.hands.items rest.block rest.area rest.names workers refl (record {
     setup = s.setup;
     named = s.names;
@@ -74,7 +75,7 @@ module _ {S R W : Type 0} (o : objects.Ghosts S R W) (r : reads.Ghosts R) (w : w
   })
 
   -- and for one with another hand of the label
-  pub stays_set : (t u : Hand R W) (k h : machine.Hand) → hand_at (hands_of V (suc i)) l ≡ Some k → ChangesAt old.hands.items new.hands.items i (SetsHand l t u) → Fits r w s.known old.workers.items old.names.next_id old.block (suc i, l) h u → Stands o r w U new (put_back V (suc i) V.body (set_hand l h (hands_of V (suc i))))
+  pub stays_set : (t u : Hand R W) (k h : machine.Hand) → hand_at (hands_of V (suc i)) l ≡ Some k → ChangesAt old.hands.items new.hands.items i (SetsHand l t u) → Fits r w s.known old.workers.items old.names.next_id old.block (suc i, l) h u → Stands d o r w U new (put_back V (suc i) V.body (set_hand l h (hands_of V (suc i))))
   stays_set t u k h at hands fits = stands_by o r w U new (put_back V (suc i) V.body (set_hand l h (hands_of V (suc i)))) s.known old.block old.area old.names old.workers.items new.hands.items rest.block rest.area rest.names workers refl (record {
     setup = s.setup;
     named = s.names;

@@ -19,7 +19,7 @@ abbrev pub tier_counts : {S : Type 0} → List (Vec S) → List ℕ
 tier_counts {S} tiers = map (λ (v : Vec S). length v.items) tiers
 
 -- there are as many stores, workers and tiers of each worker as the setup says
-pub record MediaFit {S : Type 0} (U : Setup) (m : Media S) : Type 0 where
+pub record MediaFit {D S : Type 0} (U : Setup) (m : Media D S) : Type 0 where
   pub stores_fit : length m.stores.items ≡ U.stores
   pub tiers_fit : tier_counts m.tiers.items ≡ map (λ (sizes : List ℕ). length sizes) U.tiers
 
@@ -28,7 +28,7 @@ abbrev pub IsEmptyTier : {S R W : Type 0} → objects.Ghosts S R W → S → Typ
 IsEmptyTier o s = IsSomeAnd (o.told s) (λ (m : Contents). (key : List (List ℕ)) → m key ≡ None)
 
 -- so it is with each tier of each worker
-abbrev pub TiersEmpty : {S R W : Type 0} → objects.Ghosts S R W → Media S → Type 0
+abbrev pub TiersEmpty : {D S R W : Type 0} → objects.Ghosts S R W → Media D S → Type 0
 TiersEmpty o m = All (λ v. All (IsEmptyTier o) v.items) m.tiers.items
 
 -- no label is there

@@ -3,6 +3,7 @@ use Rattle.std.specs.Prelude.{ℕ, ◌<◌, ⊤, ◌⊎◌, List, pred}
 use Rattle.fs_model.specs.declared.event.Event.{Event}
 use Rattle.fs_model.specs.declared.reply.Reply.{Reply}
 use Rattle.fs_model.specs.declared.reply.Refusal.{Refusal}
+use Rattle.outside.specs.declared.disk.Disk as disks
 use Rattle.outside.specs.declared.objects.Objects as objects
 use Rattle.outside.specs.declared.objects.ObjectRead as reads
 use Rattle.outside.specs.declared.objects.ObjectWrite as writes
@@ -27,7 +28,7 @@ module _ {S R W : Type 0} (o : objects.Ghosts S R W) where
   NodeCounted n m = (t : ℕ) × At n.tiers.items m.tiers.items t (Counts o)
 
   -- so it is with the worker of this number, which counts from 1
-  abbrev pub TierCounted : {w : writes.Ghosts W} → Core S R W w → Core S R W w → ℕ → Type 0
+  abbrev pub TierCounted : {D : Type 0} {d : disks.Ghosts D} {w : writes.Ghosts W} → Core D S R W d w → Core D S R W d w → ℕ → Type 0
   TierCounted old new v = (0 < v) × At old.workers.items new.workers.items (pred v) NodeCounted
 
 module _ {S R W : Type 0} (o : objects.Ghosts S R W) (r : reads.Ghosts R) (w : writes.Ghosts W) where
@@ -36,10 +37,10 @@ module _ {S R W : Type 0} (o : objects.Ghosts S R W) (r : reads.Ghosts R) (w : w
   UnderRose s (Hand.Writing x) (Hand.Writing y) = ObjectRose w s x y
   UnderRose s h k = ⊥
 
-  -- a fault is answered only where a count rose in the event: of a tier of that worker, or of the reader or writer under the event's label, which isn't steady; a wait only where the waits of such a reader did; and no fault of the journal comes
-  abbrev pub IsCaused : Core S R W w → Core S R W w → ℕ → Event → Reply → Type 0
-  IsCaused old new who e (Reply.Refused (Refusal.TierFault v)) = TierCounted o old new v ⊎ (l : List ℕ) × Uses e l × AtLabel o r w old new who l (HandRose o r w v)
-  IsCaused old new who e (Reply.Refused (Refusal.UnderFault s)) = (l : List ℕ) × Uses e l × AtLabel o r w old new who l (UnderRose s)
-  IsCaused old new who e (Reply.Refused Refusal.JournalFault) = ⊥
-  IsCaused old new who e Reply.NotReady = (v : ℕ) × (l : List ℕ) × Uses e l × AtLabel o r w old new who l (HandWaited o r w v)
-  IsCaused old new who e reply = ⊤
+-- a fault is answered only where a count rose in the event: of a tier of that worker, or of the reader or writer under the event's label, which isn't steady; a wait only where the waits of such a reader did; and no fault of the journal comes
+abbrev pub IsCaused : {D S R W : Type 0} (d : disks.Ghosts D) (o : objects.Ghosts S R W) (r : reads.Ghosts R) (w : writes.Ghosts W) → Core D S R W d w → Core D S R W d w → ℕ → Event → Reply → Type 0
+IsCaused d o r w old new who e (Reply.Refused (Refusal.TierFault v)) = TierCounted o old new v ⊎ (l : List ℕ) × Uses e l × AtLabel o r w old new who l (HandRose o r w v)
+IsCaused d o r w old new who e (Reply.Refused (Refusal.UnderFault s)) = (l : List ℕ) × Uses e l × AtLabel o r w old new who l (UnderRose o r w s)
+IsCaused d o r w old new who e (Reply.Refused Refusal.JournalFault) = ⊥
+IsCaused d o r w old new who e Reply.NotReady = (v : ℕ) × (l : List ℕ) × Uses e l × AtLabel o r w old new who l (HandWaited o r w v)
+IsCaused d o r w old new who e reply = ⊤

@@ -8,6 +8,7 @@ use Rattle.fs_model.specs.State.{Whole}
 use Rattle.fs_model.specs.Faults.{Rise}
 use Rattle.fs_model.specs.Step.{WholeStep}
 use Rattle.outside.specs.Causes.{Rose}
+use Rattle.outside.specs.declared.disk.Disk as disks
 use Rattle.outside.specs.declared.objects.Objects as objects
 use Rattle.outside.specs.declared.objects.ObjectRead as reads
 use Rattle.outside.specs.declared.objects.ObjectWrite as writes
@@ -45,10 +46,6 @@ abbrev pub wait_rise : Rise
 wait_rise = record { stores = []; tiers = []; journal = 0; waits = 1 }
 
 module _ {S R W : Type 0} (o : objects.Ghosts S R W) (r : reads.Ghosts R) (w : writes.Ghosts W) where
-  -- the count of faults of a tier rose
-  abbrev pub TierRose : Core S R W w → Core S R W w → ℕ → ℕ → Type 0
-  TierRose old new v t = At old.workers.items new.workers.items (pred v) (λ n m. At n.tiers.items m.tiers.items t (λ s u. Rose (o.faults s) (o.faults u)))
-
   -- the source was and is there, and the count of its reader, which isn't steady, rose
   abbrev pub SourceRose : (R → ℕ) → ℕ → Option (BlockSource R) → Option (BlockSource R) → Type 0
   SourceRose count v s t = IsSomeAnd s (λ x. IsSomeAnd t (λ y. (x.worker ≡ v) × (r.steady x.stream.reader ≡ false) × Rose (count x.stream.reader) (count y.stream.reader)))
@@ -64,26 +61,32 @@ module _ {S R W : Type 0} (o : objects.Ghosts S R W) (r : reads.Ghosts R) (w : w
   HandWaited v (Hand.Reading x) (Hand.Reading y) = SourceRose r.waits v x.source y.source
   HandWaited v h k = ⊥
 
-  -- so it is with what one of the actor's labels has
-  abbrev pub AtLabel : Core S R W w → Core S R W w → ℕ → List ℕ → (Hand R W → Hand R W → Type 0) → Type 0
+module _ {D S R W : Type 0} {d : disks.Ghosts D} (o : objects.Ghosts S R W) (r : reads.Ghosts R) (w : writes.Ghosts W) where
+  -- the count of faults of a tier rose
+  abbrev pub TierRose : Core D S R W d w → Core D S R W d w → ℕ → ℕ → Type 0
+  TierRose old new v t = At old.workers.items new.workers.items (pred v) (λ n m. At n.tiers.items m.tiers.items t (λ s u. Rose (o.faults s) (o.faults u)))
+
+  -- P holds of what one of the actor's labels had and has
+  abbrev pub AtLabel : Core D S R W d w → Core D S R W d w → ℕ → List ℕ → (Hand R W → Hand R W → Type 0) → Type 0
   AtLabel old new who l P = At old.hands.items new.hands.items (pred who) (λ s t. IsSomeAnd (hand_in s l) (λ h. IsSomeAnd (hand_in t l) (λ k. P h k)))
 
+module _ {D S R W : Type 0} (d : disks.Ghosts D) (o : objects.Ghosts S R W) (r : reads.Ghosts R) (w : writes.Ghosts W) where
   -- what rose in an event: nothing, or by one the count of a tier, that of the reader or writer of the event's label, or the waits of that reader
-  pub data Rises (old new : Core S R W w) (who : ℕ) (e : Event) : Rise → Type 0 where
+  pub data Rises (old new : Core D S R W d w) (who : ℕ) (e : Event) : Rise → Type 0 where
     Nothing : Rises old new who e no_rise
-    OfTier : (v t : ℕ) → TierRose old new v t → Rises old new who e (tier_rise v)
-    OfHand : (v : ℕ) (l : List ℕ) → Uses e l → AtLabel old new who l (HandRose v) → Rises old new who e (tier_rise v)
-    OfWaits : (v : ℕ) (l : List ℕ) → Uses e l → AtLabel old new who l (HandWaited v) → Rises old new who e wait_rise
+    OfTier : (v t : ℕ) → TierRose o r w old new v t → Rises old new who e (tier_rise v)
+    OfHand : (v : ℕ) (l : List ℕ) → Uses e l → AtLabel o r w old new who l (HandRose o r w v) → Rises old new who e (tier_rise v)
+    OfWaits : (v : ℕ) (l : List ℕ) → Uses e l → AtLabel o r w old new who l (HandWaited o r w v) → Rises old new who e wait_rise
 
   -- there is a state for which the core stands afterwards, to which the machine goes by this step, and what rose in it are the counts that did
-  pub record Goes (U : Setup) (old new : Core S R W w) (V : Whole) (who : ℕ) (e : Event) (reply : Reply) : Type 0 where
+  pub record Goes (U : Setup) (old new : Core D S R W d w) (V : Whole) (who : ℕ) (e : Event) (reply : Reply) : Type 0 where
     pub after : Whole
     pub rise : Rise
     pub made : Option Change
-    pub stands : Stands o r w U new after
+    pub stands : Stands d o r w U new after
     pub rises : Rises old new who e rise
     pub step : WholeStep U V (record { actor = who; event = e; reply = reply }) after (record { rise = rise; made = made })
 
   -- so it is from every state for which the core stands
-  abbrev pub Steps : Core S R W w → Core S R W w → ℕ → Event → Reply → Type 0
-  Steps old new who e reply = (U : Setup) (V : Whole) → Stands o r w U old V → Goes U old new V who e reply
+  abbrev pub Steps : Core D S R W d w → Core D S R W d w → ℕ → Event → Reply → Type 0
+  Steps old new who e reply = (U : Setup) (V : Whole) → Stands d o r w U old V → Goes U old new V who e reply

@@ -1,5 +1,6 @@
--- What an event leaves of the stores and of the workers' tiers, whatever the core stands for.
+-- What an event leaves of the areas, of the stores and of the workers' tiers, whatever the core stands for.
 use Rattle.std.specs.Prelude.{ℕ, ◌≡◌, ◌≤◌, List, length, slice_get, Some}
+use Rattle.outside.specs.declared.disk.Disk as disks
 use Rattle.outside.specs.declared.objects.Objects as objects
 use Rattle.outside.specs.declared.objects.ObjectWrite as writes
 use Rattle.cluster_core.specs.declared.node.Node.{Node}
@@ -17,7 +18,8 @@ module _ {S R W : Type 0} (o : objects.Ghosts S R W) where
     pub same_length : length new ≡ length old
     pub each : (i : ℕ) (n m : Node S) → slice_get old i ≡ Some n → slice_get new i ≡ Some m → TiersStay n m
 
-  -- the stores are as they were, and so it is with each worker
-  pub record MediaStays {w : writes.Ghosts W} (old new : Core S R W w) : Type 0 where
-    pub stores : new.stores ≡ old.stores
-    pub workers : NodesStay old.workers.items new.workers.items
+-- the areas and the stores are as they were, and so it is with each worker
+pub record MediaStays {D S R W : Type 0} (d : disks.Ghosts D) (o : objects.Ghosts S R W) {w : writes.Ghosts W} (old new : Core D S R W d w) : Type 0 where
+  pub areas : new.areas ≡ old.areas
+  pub stores : new.stores ≡ old.stores
+  pub workers : NodesStay o old.workers.items new.workers.items

@@ -7,6 +7,7 @@ use Rattle.fs_model.specs.Words.{block_of}
 use Rattle.fs_model.specs.State.{State, Whole, Node as machineNode, NodeRow, File, Copied, Content, Hands}
 use Rattle.fs_model.specs.Lookups.{is_running}
 use Rattle.outside.specs.Contents.{Contents}
+use Rattle.outside.specs.declared.disk.Disk as disks
 use Rattle.outside.specs.declared.objects.Objects as objects
 use Rattle.outside.specs.declared.objects.ObjectRead as reads
 use Rattle.outside.specs.declared.objects.ObjectWrite as writes
@@ -111,7 +112,7 @@ module _ {S R W : Type 0} (o : objects.Ghosts S R W) where
 -- ---- the whole
 
 -- the core stands for a state whose rows are its own, where files, objects, readers and writers have the same bytes
-pub record Stands {S R W : Type 0} (o : objects.Ghosts S R W) (r : reads.Ghosts R) (w : writes.Ghosts W) (U : Setup) (C : Core S R W w) (V : Whole) : Type 0 where
+pub record Stands {D S R W : Type 0} (d : disks.Ghosts D) (o : objects.Ghosts S R W) (r : reads.Ghosts R) (w : writes.Ghosts W) (U : Setup) (C : Core D S R W d w) (V : Whole) : Type 0 where
   pub known : Knowledge
   pub setup : SetupFits U C.block C.area C.workers.items
   pub names : NamesStand C.names V.body

@@ -2,6 +2,7 @@
 use Rattle.std.specs.Prelude.{ℕ, ◌≡◌, true, List, Some, IfSome, slice_get}
 use Rattle.std.specs.List.{All}
 use Rattle.outside.specs.declared.media.Media.{Media}
+use Rattle.outside.specs.declared.disk.Disk as disks
 use Rattle.outside.specs.declared.objects.Objects as objects
 use Rattle.outside.specs.declared.objects.ObjectRead as reads
 use Rattle.outside.specs.declared.objects.ObjectWrite as writes
@@ -12,7 +13,7 @@ use Rattle.cluster_core.specs.declared.hand.Hand.{Hand}
 use Rattle.cluster_core.specs.declared.node.Node.{Node}
 
 -- all tiers are steady
-abbrev pub MediaSteady : {S R W : Type 0} → objects.Ghosts S R W → Media S → Type 0
+abbrev pub MediaSteady : {D S R W : Type 0} → objects.Ghosts S R W → Media D S → Type 0
 MediaSteady o m = All (λ v. All (λ s. o.steady s ≡ true) v.items) m.tiers.items
 
 -- each tier of each worker is steady
@@ -30,6 +31,6 @@ module _ {R W : Type 0} (r : reads.Ghosts R) (w : writes.Ghosts W) where
   HandsSteady labels = (i : ℕ) (l : List ℕ) (s : LabelsView (Hand R W)) (h : Hand R W) → slice_get labels i ≡ Some s → hand_in s l ≡ Some h → IsHandSteady h
 
 -- each tier is steady, and what is under each label
-pub record IsSteady {S R W : Type 0} (o : objects.Ghosts S R W) (r : reads.Ghosts R) (w : writes.Ghosts W) (core : Core S R W w) : Type 0 where
+pub record IsSteady {D S R W : Type 0} (d : disks.Ghosts D) (o : objects.Ghosts S R W) (r : reads.Ghosts R) (w : writes.Ghosts W) (core : Core D S R W d w) : Type 0 where
   pub tiers : TiersSteady o core.workers.items
   pub hands : HandsSteady r w core.hands.items

@@ -10,6 +10,7 @@ use Rattle.fs_model.specs.Lookups.{at_number}
 use Rattle.fs_model.specs.Tests.{refuse, past}
 use Rattle.inode_tree.specs.Rows.{file_row}
 use Rattle.outside.specs.Keys.{KeyNames}
+use Rattle.outside.specs.declared.disk.Disk as disks
 use Rattle.outside.specs.declared.objects.Objects as objects
 use Rattle.outside.specs.declared.objects.ObjectRead as reads
 use Rattle.outside.specs.declared.objects.ObjectWrite as writes
@@ -39,7 +40,7 @@ IsNoWriter (Some (Hand.Reading x)) = ⊤
 IsNoWriter (Some (Hand.Writing x)) = x.broken ≡ true
 
 -- the writer was taken out of the actor's labels, and nothing else has changed
-pub record TookWriter {S R W : Type 0} {w : writes.Ghosts W} (was now : Core S R W w) (who : ℕ) (l : List ℕ) (x : Writer W) : Type 0 where
+pub record TookWriter {D S R W : Type 0} {d : disks.Ghosts D} {w : writes.Ghosts W} (was now : Core D S R W d w) (who : ℕ) (l : List ℕ) (x : Writer W) : Type 0 where
   pub rest : KeepsRest was now
   pub workers : now.workers ≡ was.workers
   pub hands : ChangesAt was.hands.items now.hands.items (pred who) (EndsHand l (Hand.Writing x))
@@ -50,8 +51,8 @@ abbrev pub MayPut : {R W : Type 0} → List (LabelsView (Hand R W)) → ℕ → 
 MayPut labels who l = IsSomeAnd (slice_get labels (pred who)) (λ s. (hand_in s l ≡ None) × HasRoom s)
 
 -- from before the writer was taken out on, the event is a step
-abbrev pub StepsFrom : {S R W : Type 0} (o : objects.Ghosts S R W) (r : reads.Ghosts R) (w : writes.Ghosts W) → Core S R W w → Core S R W w → ℕ → List ℕ → Writer W → Event → Reply → Type 0
-StepsFrom {S} {R} {W} o r w now new who l x e reply = (was : Core S R W w) → TookWriter was now who l x → Steps o r w was new who e reply
+abbrev pub StepsFrom : {D S R W : Type 0} (d : disks.Ghosts D) (o : objects.Ghosts S R W) (r : reads.Ghosts R) (w : writes.Ghosts W) → Core D S R W d w → Core D S R W d w → ℕ → List ℕ → Writer W → Event → Reply → Type 0
+StepsFrom {D} {S} {R} {W} d o r w now new who l x e reply = (was : Core D S R W d w) → TookWriter was now who l x → Steps d o r w was new who e reply
 
 -- ---- tests
 

@@ -13,6 +13,7 @@ ghost use Rattle.cluster_core.specs.Writers.{lacks_room, next_of};
 use crate::cluster::Core;
 use crate::node::Node;
 use fs_model::numbers::WorkerNo;
+use outside::disk::Disk;
 use outside::objects::Objects;
 use tier_book::room::RoomNo;
 
@@ -26,7 +27,7 @@ fn node_at<O>(workers: &[Node<O>], worker: WorkerNo) -> Option<&Node<O>>
     workers.get(worker.0 as usize - 1)
 }
 
-impl<O: Objects> Core<O, O::Reader, O::Writer> {
+impl<D: Disk, O: Objects> Core<D, O, O::Reader, O::Writer> {
     /// Whether the number is that of a worker.
     pub(crate) fn is_configured(&self, worker: WorkerNo) -> bool
         ensures { result ≡ configured_here self.now.workers.items worker }

@@ -23,6 +23,7 @@ use crate::node::Node;
 use fs_model::items::Items;
 use fs_model::setup::Setup;
 use fs_model::stop::Stop;
+use outside::disk::Disk;
 use outside::media::Media;
 use outside::objects::{ObjectWrite, Objects};
 use std::alloc::{AllocError, Global};
@@ -207,12 +208,12 @@ fn give_all<O>(nodes: &mut Vec<Node<O>>, shelf: &mut Vec<Vec<O>>)
 }
 
 /// The core of these parts over media that fit them.
-fn core_over<O, R, W: ObjectWrite>(
+fn core_over<D: Disk, O, R, W: ObjectWrite>(
     alloc: Global,
     setup: &Setup,
     parts: Parts<O, R, W>,
-    media: Media<O>,
-) -> Core<O, R, W>
+    media: Media<D, O>,
+) -> Core<D, O, R, W>
     requires setup { is_setup setup.now ≡ true }
     requires fit { MediaFit setup.now media }
     requires books { parts.books.items ≡ map fresh_book setup.now.tiers }
@@ -223,6 +224,7 @@ fn core_over<O, R, W: ObjectWrite>(
     ensures area { result.area ≡ setup.now.area }
     ensures names { result.names ≡ parts.names }
     ensures hands { result.hands ≡ parts.hands }
+    ensures areas { result.areas ≡ media.areas }
     ensures stores { result.stores ≡ media.stores }
     ensures tiers { map (λ n. n.tiers) result.workers.items ≡ media.tiers.items }
     ensures books { map (λ n. n.book) result.workers.items ≡ map fresh_book setup.now.tiers }
@@ -234,13 +236,18 @@ fn core_over<O, R, W: ObjectWrite>(
         hands,
         mut nodes,
     } = parts;
-    let Media { stores, mut tiers } = media;
+    let Media {
+        areas,
+        stores,
+        mut tiers,
+    } = media;
     move_all(alloc, &mut books, &mut tiers, &mut nodes);
     run_first(&mut nodes);
     Core {
         block: setup.block,
         area: setup.area,
         names,
+        areas,
         workers: nodes,
         stores,
         hands,
@@ -248,7 +255,7 @@ fn core_over<O, R, W: ObjectWrite>(
     }
 }
 
-impl<O: Objects> Core<O, O::Reader, O::Writer> {
+impl<D: Disk, O: Objects> Core<D, O, O::Reader, O::Writer> {
     /// Opens a cluster over fresh areas and these media, which are as many as the setup says. Worker 1, where it is
     /// configured, runs; no other does. No actor has a label, and the names are those over fresh areas.
     ///
@@ -256,19 +263,20 @@ impl<O: Objects> Core<O, O::Reader, O::Writer> {
     pub fn open_cluster(
         alloc: Global,
         setup: &Setup,
-        media: Media<O>,
-    ) -> Result<Core<O, O::Reader, O::Writer>, (Stop, Media<O>)>
+        media: Media<D, O>,
+    ) -> Result<Core<D, O, O::Reader, O::Writer>, (Stop, Media<D, O>)>
         requires setup { is_setup setup.now ≡ true }
         requires fit { MediaFit setup.now media }
 
         // Over tiers that tell and hold no object, it stands for each state that a play begins with.
-        ensures stands { IfOk result (λ core. (V : Whole) → Begins setup.now V → TiersEmpty O.Objects media → Stands O.Objects O.Reader.ObjectRead O.Writer.ObjectWrite setup.now core V) }
+        ensures stands { IfOk result (λ core. (V : Whole) → Begins setup.now V → TiersEmpty O.Objects media → Stands D.Disk O.Objects O.Reader.ObjectRead O.Writer.ObjectWrite setup.now core V) }
 
         // Over steady tiers all is steady.
-        ensures steady { IfOk result (λ core. MediaSteady O.Objects media → IsSteady O.Objects O.Reader.ObjectRead O.Writer.ObjectWrite core) }
+        ensures steady { IfOk result (λ core. MediaSteady O.Objects media → IsSteady D.Disk O.Objects O.Reader.ObjectRead O.Writer.ObjectWrite core) }
 
         ensures block { IfOk result (λ core. core.block ≡ setup.now.block) }
         ensures area { IfOk result (λ core. core.area ≡ setup.now.area) }
+        ensures areas { IfOk result (λ core. core.areas ≡ media.areas) }
         ensures stores { IfOk result (λ core. core.stores ≡ media.stores) }
         ensures tiers { IfOk result (λ core. map (λ n. n.tiers) core.workers.items ≡ media.tiers.items) }
 
@@ -281,8 +289,9 @@ impl<O: Objects> Core<O, O::Reader, O::Writer> {
         }
     }
 
-    /// Ends the cluster, and gives its stores and the tiers of each worker back, in order. It takes no memory.
-    pub fn close(self) -> Media<O>
+    /// Ends the cluster, and gives its areas, its stores and the tiers of each worker back, in order. It takes no memory.
+    pub fn close(self) -> Media<D, O>
+        ensures areas { result.areas ≡ self.areas }
         ensures stores { result.stores ≡ self.stores }
         ensures tiers { result.tiers.items ≡ map (λ n. n.tiers) self.workers.items }
     {
@@ -291,6 +300,7 @@ impl<O: Objects> Core<O, O::Reader, O::Writer> {
         give_all(&mut nodes, &mut shelf);
         nodes.destroy_empty();
         Media {
+            areas: self.areas,
             stores: self.stores,
             tiers: shelf,
         }

@@ -18,6 +18,7 @@ use crate::hand::Hand;
 use fs_model::label::Label;
 use fs_model::numbers::{Actor, WorkerNo};
 use fs_model::reply::{Refusal, Reply};
+use outside::disk::Disk;
 use outside::objects::{ObjectWrite, Objects};
 use tier_book::room::RoomNo;
 
@@ -34,7 +35,7 @@ fn room_of<R, W: ObjectWrite>(hand: &Hand<R, W>) -> Option<(WorkerNo, u64, RoomN
     }
 }
 
-impl<O: Objects> Core<O, O::Reader, O::Writer> {
+impl<D: Disk, O: Objects> Core<D, O, O::Reader, O::Writer> {
     /// Frees what the hand reserved at a worker that wasn't started anew since.
     fn free_reserved(&mut self, hand: &Hand<O::Reader, O::Writer>)
         ensures rest { KeepsRest self.old self.new }
@@ -51,10 +52,10 @@ impl<O: Objects> Core<O, O::Reader, O::Writer> {
     /// `close`: ends a label, and frees what it reserved.
     pub(crate) fn close_label(&mut self, actor: Actor, label: &Label) -> Reply
         requires { is_actor actor ≡ true }
-        ensures steps { Steps O.Objects O.Reader.ObjectRead O.Writer.ObjectWrite self.old self.new actor (Event.Close label.now) result }
-        ensures media { MediaStays O.Objects self.old self.new }
-        ensures cause { IsCaused O.Objects O.Reader.ObjectRead O.Writer.ObjectWrite self.old self.new actor (Event.Close label.now) result }
-        ensures steady { IsSteady O.Objects O.Reader.ObjectRead O.Writer.ObjectWrite self.old → IsSteady O.Objects O.Reader.ObjectRead O.Writer.ObjectWrite self.new }
+        ensures steps { Steps D.Disk O.Objects O.Reader.ObjectRead O.Writer.ObjectWrite self.old self.new actor (Event.Close label.now) result }
+        ensures media { MediaStays D.Disk O.Objects self.old self.new }
+        ensures cause { IsCaused D.Disk O.Objects O.Reader.ObjectRead O.Writer.ObjectWrite self.old self.new actor (Event.Close label.now) result }
+        ensures steady { IsSteady D.Disk O.Objects O.Reader.ObjectRead O.Writer.ObjectWrite self.old → IsSteady D.Disk O.Objects O.Reader.ObjectRead O.Writer.ObjectWrite self.new }
     {
         match self.take_hand(actor, label) {
             None => Reply::Refused(Refusal::BadLabel),

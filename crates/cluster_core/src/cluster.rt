@@ -6,16 +6,21 @@ use crate::hand::Hand;
 use crate::labels::Labels;
 use crate::names::Names;
 use crate::node::Node;
+use outside::disk::Disk;
+use outside::fused::Fused;
 use outside::objects::ObjectWrite;
 
-/// A cluster: its names, its workers with their tiers, its stores, and what each actor has under its labels.
+/// A cluster: its names, its journal's areas, its workers with their tiers, its stores, and what each actor has under
+/// its labels.
 #[derive(Drop)]
-pub struct Core<O, R, W: ObjectWrite> {
+pub struct Core<D: Disk, O, R, W: ObjectWrite> {
     /// The size of a block in bytes.
     pub(crate) block: u32,
     /// The size of a journal area in bytes.
     pub(crate) area: u64,
     pub(crate) names: Names,
+    /// The journal's areas 0 and 1.
+    pub(crate) areas: (Fused<D>, Fused<D>),
     /// The workers, from number 1 on.
     pub(crate) workers: Vec<Node<O>>,
     /// The under-stores, from number 1 on.

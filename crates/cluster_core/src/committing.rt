@@ -19,6 +19,7 @@ use file_writer::writer::FileWriter;
 use fs_model::numbers::{BlockNo, WorkerNo};
 use fs_model::reply::Stored;
 use inode_tree::row::Row;
+use outside::disk::Disk;
 use outside::key::Key;
 use outside::objects::{ObjectWrite, Objects};
 use outside::stream::Fault;
@@ -85,7 +86,7 @@ fn commit_at<O: Objects>(
     node.commit(room, key, pen, block)
 }
 
-impl<O: Objects> Core<O, O::Reader, O::Writer> {
+impl<D: Disk, O: Objects> Core<D, O, O::Reader, O::Writer> {
     /// What the open block of a writer is committed as.
     fn finished(&self, writer: &Writer<O::Writer>) -> Finished
         ensures { result ≡ finished_of self.now.names.nodes self.now.block writer.now }
@@ -155,7 +156,7 @@ impl<O: Objects> Core<O, O::Reader, O::Writer> {
         ensures closed { OnOk result (writer.new ≡ closed_writer false writer.old) }
         ensures broken { result ≡ Err Fail.Failed → writer.new ≡ closed_writer true writer.old }
         ensures memory { result ≡ Err Fail.Memory → (self.new.workers ≡ self.old.workers) × (writer.new ≡ writer.old) }
-        ensures media { MediaStays O.Objects self.old self.new }
+        ensures media { MediaStays D.Disk O.Objects self.old self.new }
         ensures counted { result ≡ Err Fail.Failed → TierCounted O.Objects self.old self.new writer.old.worker }
     {
         let reserved = writer.room;

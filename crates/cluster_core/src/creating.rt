@@ -25,6 +25,7 @@ use fs_model::label::Label;
 use fs_model::numbers::{Actor, FileId, WorkerNo};
 use fs_model::path::Path;
 use fs_model::reply::{Refusal, Reply, Which};
+use outside::disk::Disk;
 use outside::objects::{ObjectWrite, Objects};
 use std::alloc::{AllocError, Global};
 
@@ -46,7 +47,7 @@ fn fresh<W: ObjectWrite>(block: u32, file: FileId, worker: WorkerNo, started: u6
     }
 }
 
-impl<O: Objects> Core<O, O::Reader, O::Writer> {
+impl<D: Disk, O: Objects> Core<D, O, O::Reader, O::Writer> {
     /// How often the worker was started; number 0 counts as the first worker.
     fn started_of(&self, worker: WorkerNo) -> u64
         ensures { result ≡ started_here self.now.workers.items worker }
@@ -114,6 +115,7 @@ impl<O: Objects> Core<O, O::Reader, O::Writer> {
         ensures block { self.new.block ≡ self.old.block }
         ensures area { self.new.area ≡ self.old.area }
         ensures workers { self.new.workers ≡ self.old.workers }
+        ensures areas { self.new.areas ≡ self.old.areas }
         ensures stores { self.new.stores ≡ self.old.stores }
         ensures names { OnOk result (self.new.names ≡ with_file path.now self.old.names) }
         ensures hands { OnOk result (ChangesAt self.old.hands.items self.new.hands.items (pred actor) (AddsHand label.now (Hand.Writing (new_writer self.old.names.next_id worker (started_here self.old.workers.items worker) self.old.block)))) }
@@ -140,10 +142,10 @@ impl<O: Objects> Core<O, O::Reader, O::Writer> {
     ) -> Reply
         requires actor { is_actor actor ≡ true }
         requires some { 0 < worker }
-        ensures steps { Steps O.Objects O.Reader.ObjectRead O.Writer.ObjectWrite self.old self.new actor (Event.Create label.now path.now WriteType.MustCache worker) result }
-        ensures media { MediaStays O.Objects self.old self.new }
-        ensures cause { IsCaused O.Objects O.Reader.ObjectRead O.Writer.ObjectWrite self.old self.new actor (Event.Create label.now path.now WriteType.MustCache worker) result }
-        ensures steady { IsSteady O.Objects O.Reader.ObjectRead O.Writer.ObjectWrite self.old → IsSteady O.Objects O.Reader.ObjectRead O.Writer.ObjectWrite self.new }
+        ensures steps { Steps D.Disk O.Objects O.Reader.ObjectRead O.Writer.ObjectWrite self.old self.new actor (Event.Create label.now path.now WriteType.MustCache worker) result }
+        ensures media { MediaStays D.Disk O.Objects self.old self.new }
+        ensures cause { IsCaused D.Disk O.Objects O.Reader.ObjectRead O.Writer.ObjectWrite self.old self.new actor (Event.Create label.now path.now WriteType.MustCache worker) result }
+        ensures steady { IsSteady D.Disk O.Objects O.Reader.ObjectRead O.Writer.ObjectWrite self.old → IsSteady D.Disk O.Objects O.Reader.ObjectRead O.Writer.ObjectWrite self.new }
     {
         if let Some(refusal) = self.create_refusal(actor, label, path, worker) {
             return Reply::Refused(refusal);

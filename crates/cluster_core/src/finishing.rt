@@ -23,11 +23,12 @@ use fs_model::numbers::Actor;
 use fs_model::path::Path;
 use fs_model::reply::{Refusal, Reply, Which};
 use inode_tree::row::Row;
+use outside::disk::Disk;
 use outside::objects::Objects;
 use outside::world::Fail;
 use std::alloc::Global;
 
-impl<O: Objects> Core<O, O::Reader, O::Writer> {
+impl<D: Disk, O: Objects> Core<D, O, O::Reader, O::Writer> {
     /// Why a file that is there can't be done, if it can't.
     fn done_refusal(&self, writer: &Writer<O::Writer>) -> Option<Refusal>
         ensures refused { option_map Reply.Refused result ≡ done_test self.now.area self.now.names self.now.workers.items writer.now }
@@ -54,6 +55,7 @@ impl<O: Objects> Core<O, O::Reader, O::Writer> {
         ensures area { self.new.area ≡ self.old.area }
         ensures workers { self.new.workers ≡ self.old.workers }
         ensures hands { self.new.hands ≡ self.old.hands }
+        ensures areas { self.new.areas ≡ self.old.areas }
         ensures stores { self.new.stores ≡ self.old.stores }
     {
         self.names.finish(path, row, len);
@@ -75,10 +77,10 @@ impl<O: Objects> Core<O, O::Reader, O::Writer> {
         requires found { find_node self.old.names.nodes path.now ≡ Some (node_of row) }
         requires file { row.dir ≡ false }
         requires id { row.id ≡ writer.file }
-        ensures steps { StepsFrom O.Objects O.Reader.ObjectRead O.Writer.ObjectWrite self.old self.new actor label writer (Event.Finish label) result }
-        ensures media { MediaStays O.Objects self.old self.new }
+        ensures steps { StepsFrom D.Disk O.Objects O.Reader.ObjectRead O.Writer.ObjectWrite self.old self.new actor label writer (Event.Finish label) result }
+        ensures media { MediaStays D.Disk O.Objects self.old self.new }
         ensures cause { OnlyTier (TierCounted O.Objects self.old self.new) result }
-        ensures steady { IsSteady O.Objects O.Reader.ObjectRead O.Writer.ObjectWrite self.old → IsHandSteady O.Reader.ObjectRead O.Writer.ObjectWrite (Hand.Writing writer) → IsSteady O.Objects O.Reader.ObjectRead O.Writer.ObjectWrite self.new }
+        ensures steady { IsSteady D.Disk O.Objects O.Reader.ObjectRead O.Writer.ObjectWrite self.old → IsHandSteady O.Reader.ObjectRead O.Writer.ObjectWrite (Hand.Writing writer) → IsSteady D.Disk O.Objects O.Reader.ObjectRead O.Writer.ObjectWrite self.new }
     {
         if let Some(refusal) = self.done_refusal(&writer) {
             return self.put_writer(actor, label, writer, Reply::Refused(refusal));
@@ -110,10 +112,10 @@ impl<O: Objects> Core<O, O::Reader, O::Writer> {
     ) -> Reply
         requires actor { is_actor actor ≡ true }
         requires back { MayPut self.old.hands.items actor label }
-        ensures steps { StepsFrom O.Objects O.Reader.ObjectRead O.Writer.ObjectWrite self.old self.new actor label writer (Event.Finish label) result }
-        ensures media { MediaStays O.Objects self.old self.new }
+        ensures steps { StepsFrom D.Disk O.Objects O.Reader.ObjectRead O.Writer.ObjectWrite self.old self.new actor label writer (Event.Finish label) result }
+        ensures media { MediaStays D.Disk O.Objects self.old self.new }
         ensures cause { OnlyTier (TierCounted O.Objects self.old self.new) result }
-        ensures steady { IsSteady O.Objects O.Reader.ObjectRead O.Writer.ObjectWrite self.old → IsHandSteady O.Reader.ObjectRead O.Writer.ObjectWrite (Hand.Writing writer) → IsSteady O.Objects O.Reader.ObjectRead O.Writer.ObjectWrite self.new }
+        ensures steady { IsSteady D.Disk O.Objects O.Reader.ObjectRead O.Writer.ObjectWrite self.old → IsHandSteady O.Reader.ObjectRead O.Writer.ObjectWrite (Hand.Writing writer) → IsSteady D.Disk O.Objects O.Reader.ObjectRead O.Writer.ObjectWrite self.new }
     {
         match self.names.place_of(alloc, writer.file) {
             Err(_) => self.put_writer(actor, label, writer, Reply::Refused(Refusal::Memory)),
@@ -125,10 +127,10 @@ impl<O: Objects> Core<O, O::Reader, O::Writer> {
     /// `done`: commits the open block of a writer, whose file is done then, and ends its label.
     pub(crate) fn finish(&mut self, alloc: Global, actor: Actor, label: &Label) -> Reply
         requires { is_actor actor ≡ true }
-        ensures steps { Steps O.Objects O.Reader.ObjectRead O.Writer.ObjectWrite self.old self.new actor (Event.Finish label.now) result }
-        ensures media { MediaStays O.Objects self.old self.new }
-        ensures cause { IsCaused O.Objects O.Reader.ObjectRead O.Writer.ObjectWrite self.old self.new actor (Event.Finish label.now) result }
-        ensures steady { IsSteady O.Objects O.Reader.ObjectRead O.Writer.ObjectWrite self.old → IsSteady O.Objects O.Reader.ObjectRead O.Writer.ObjectWrite self.new }
+        ensures steps { Steps D.Disk O.Objects O.Reader.ObjectRead O.Writer.ObjectWrite self.old self.new actor (Event.Finish label.now) result }
+        ensures media { MediaStays D.Disk O.Objects self.old self.new }
+        ensures cause { IsCaused D.Disk O.Objects O.Reader.ObjectRead O.Writer.ObjectWrite self.old self.new actor (Event.Finish label.now) result }
+        ensures steady { IsSteady D.Disk O.Objects O.Reader.ObjectRead O.Writer.ObjectWrite self.old → IsSteady D.Disk O.Objects O.Reader.ObjectRead O.Writer.ObjectWrite self.new }
     {
         match self.take_writer(actor, label) {
             None => Reply::Refused(Refusal::BadLabel),

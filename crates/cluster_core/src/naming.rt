@@ -16,10 +16,11 @@ use fs_model::numbers::Actor;
 use fs_model::path::Path;
 use fs_model::reply::{Refusal, Reply, Which};
 use inode_tree::row::Walk;
+use outside::disk::Disk;
 use outside::objects::Objects;
 use std::alloc::Global;
 
-impl<O: Objects> Core<O, O::Reader, O::Writer> {
+impl<D: Disk, O: Objects> Core<D, O, O::Reader, O::Writer> {
     /// Why a new directory is refused, if it is.
     fn mkdir_refusal(&self, path: &Path) -> Option<Refusal>
         ensures { option_map Reply.Refused result ≡ mkdir_test self.now.area self.now.names path.now }
@@ -42,10 +43,10 @@ impl<O: Objects> Core<O, O::Reader, O::Writer> {
 
     /// `mkdir`: adds a directory.
     pub(crate) fn mkdir(&mut self, alloc: Global, actor: Actor, path: &Path) -> Reply
-        ensures steps { Steps O.Objects O.Reader.ObjectRead O.Writer.ObjectWrite self.old self.new actor (Event.Mkdir path.now) result }
-        ensures media { MediaStays O.Objects self.old self.new }
-        ensures cause { IsCaused O.Objects O.Reader.ObjectRead O.Writer.ObjectWrite self.old self.new actor (Event.Mkdir path.now) result }
-        ensures steady { IsSteady O.Objects O.Reader.ObjectRead O.Writer.ObjectWrite self.old → IsSteady O.Objects O.Reader.ObjectRead O.Writer.ObjectWrite self.new }
+        ensures steps { Steps D.Disk O.Objects O.Reader.ObjectRead O.Writer.ObjectWrite self.old self.new actor (Event.Mkdir path.now) result }
+        ensures media { MediaStays D.Disk O.Objects self.old self.new }
+        ensures cause { IsCaused D.Disk O.Objects O.Reader.ObjectRead O.Writer.ObjectWrite self.old self.new actor (Event.Mkdir path.now) result }
+        ensures steady { IsSteady D.Disk O.Objects O.Reader.ObjectRead O.Writer.ObjectWrite self.old → IsSteady D.Disk O.Objects O.Reader.ObjectRead O.Writer.ObjectWrite self.new }
     {
         if let Some(refusal) = self.mkdir_refusal(path) {
             return Reply::Refused(refusal);
@@ -58,8 +59,8 @@ impl<O: Objects> Core<O, O::Reader, O::Writer> {
 
     /// `ls`: the names in a directory.
     pub(crate) fn list(&self, alloc: Global, actor: Actor, path: &Path) -> Reply
-        ensures steps { Steps O.Objects O.Reader.ObjectRead O.Writer.ObjectWrite self.now self.now actor (Event.List path.now) result }
-        ensures cause { IsCaused O.Objects O.Reader.ObjectRead O.Writer.ObjectWrite self.now self.now actor (Event.List path.now) result }
+        ensures steps { Steps D.Disk O.Objects O.Reader.ObjectRead O.Writer.ObjectWrite self.now self.now actor (Event.List path.now) result }
+        ensures cause { IsCaused D.Disk O.Objects O.Reader.ObjectRead O.Writer.ObjectWrite self.now self.now actor (Event.List path.now) result }
     {
         match self.names.walk(path) {
             Walk::Absent => Reply::Refused(Refusal::NotFound),

@@ -26,6 +26,7 @@ use fs_model::numbers::{Actor, FileId, WorkerNo};
 use fs_model::path::Path;
 use fs_model::reply::{Refusal, Reply, Which};
 use inode_tree::row::{Row, Walk};
+use outside::disk::Disk;
 use outside::objects::Objects;
 use std::alloc::AllocError;
 
@@ -63,7 +64,7 @@ fn is_past(len: u64, block: u32) -> bool
     len > BLOCKS * block as u64
 }
 
-impl<O: Objects> Core<O, O::Reader, O::Writer> {
+impl<D: Disk, O: Objects> Core<D, O, O::Reader, O::Writer> {
     /// The row of the file at the path, where the actor may open it for the worker under the label.
     fn row_to_open(
         &self,
@@ -117,10 +118,10 @@ impl<O: Objects> Core<O, O::Reader, O::Writer> {
         worker: WorkerNo,
     ) -> Reply
         requires { is_actor actor ≡ true }
-        ensures steps { Steps O.Objects O.Reader.ObjectRead O.Writer.ObjectWrite self.old self.new actor (Event.OpenFile label.now path.now ReadType.NoCache worker) result }
-        ensures media { MediaStays O.Objects self.old self.new }
-        ensures cause { IsCaused O.Objects O.Reader.ObjectRead O.Writer.ObjectWrite self.old self.new actor (Event.OpenFile label.now path.now ReadType.NoCache worker) result }
-        ensures steady { IsSteady O.Objects O.Reader.ObjectRead O.Writer.ObjectWrite self.old → IsSteady O.Objects O.Reader.ObjectRead O.Writer.ObjectWrite self.new }
+        ensures steps { Steps D.Disk O.Objects O.Reader.ObjectRead O.Writer.ObjectWrite self.old self.new actor (Event.OpenFile label.now path.now ReadType.NoCache worker) result }
+        ensures media { MediaStays D.Disk O.Objects self.old self.new }
+        ensures cause { IsCaused D.Disk O.Objects O.Reader.ObjectRead O.Writer.ObjectWrite self.old self.new actor (Event.OpenFile label.now path.now ReadType.NoCache worker) result }
+        ensures steady { IsSteady D.Disk O.Objects O.Reader.ObjectRead O.Writer.ObjectWrite self.old → IsSteady D.Disk O.Objects O.Reader.ObjectRead O.Writer.ObjectWrite self.new }
     {
         match self.row_to_open(actor, label, path, worker) {
             Err(refusal) => Reply::Refused(refusal),

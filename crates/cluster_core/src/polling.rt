@@ -16,6 +16,7 @@ use fs_model::label::Label;
 use fs_model::numbers::{Actor, BlockNo, WorkerNo};
 use fs_model::piece::Piece;
 use fs_model::reply::{Refusal, Reply};
+use outside::disk::Disk;
 use outside::objects::{ObjectRead, ObjectWrite, Objects};
 use std::alloc::{AllocError, Global};
 
@@ -172,15 +173,15 @@ fn reply_of(gave: Gave) -> Reply
     }
 }
 
-impl<O: Objects> Core<O, O::Reader, O::Writer> {
+impl<D: Disk, O: Objects> Core<D, O, O::Reader, O::Writer> {
     /// `poll`: the next bytes of a stream, at most so many.
     pub(crate) fn poll(&mut self, alloc: Global, actor: Actor, label: &Label, max: u32) -> Reply
         requires actor { is_actor actor ≡ true }
         requires max { is_piece_len max ≡ true }
-        ensures steps { Steps O.Objects O.Reader.ObjectRead O.Writer.ObjectWrite self.old self.new actor (Event.Poll label.now max) result }
-        ensures media { MediaStays O.Objects self.old self.new }
-        ensures cause { IsCaused O.Objects O.Reader.ObjectRead O.Writer.ObjectWrite self.old self.new actor (Event.Poll label.now max) result }
-        ensures steady { IsSteady O.Objects O.Reader.ObjectRead O.Writer.ObjectWrite self.old → IsSteady O.Objects O.Reader.ObjectRead O.Writer.ObjectWrite self.new }
+        ensures steps { Steps D.Disk O.Objects O.Reader.ObjectRead O.Writer.ObjectWrite self.old self.new actor (Event.Poll label.now max) result }
+        ensures media { MediaStays D.Disk O.Objects self.old self.new }
+        ensures cause { IsCaused D.Disk O.Objects O.Reader.ObjectRead O.Writer.ObjectWrite self.old self.new actor (Event.Poll label.now max) result }
+        ensures steady { IsSteady D.Disk O.Objects O.Reader.ObjectRead O.Writer.ObjectWrite self.old → IsSteady D.Disk O.Objects O.Reader.ObjectRead O.Writer.ObjectWrite self.new }
     {
         match self.take_hand(actor, label) {
             None => Reply::Refused(Refusal::BadLabel),

@@ -20,6 +20,7 @@ use fs_model::event::Fill;
 use fs_model::label::Label;
 use fs_model::numbers::{Actor, StoreNo, WorkerNo};
 use fs_model::reply::{Refusal, Reply};
+use outside::disk::Disk;
 use outside::objects::{ObjectWrite, Objects};
 use std::alloc::{AllocError, Global};
 
@@ -157,15 +158,15 @@ fn put_under<R, W: ObjectWrite>(
     }
 }
 
-impl<O: Objects> Core<O, O::Reader, O::Writer> {
+impl<D: Disk, O: Objects> Core<D, O, O::Reader, O::Writer> {
     /// `put`: gives bytes to a label's writer.
     pub(crate) fn put(&mut self, alloc: Global, actor: Actor, label: &Label, fill: &Fill) -> Reply
         requires actor { is_actor actor ≡ true }
         requires fill { is_fill fill.now ≡ true }
-        ensures steps { Steps O.Objects O.Reader.ObjectRead O.Writer.ObjectWrite self.old self.new actor (Event.Put label.now fill.now) result }
-        ensures media { MediaStays O.Objects self.old self.new }
-        ensures cause { IsCaused O.Objects O.Reader.ObjectRead O.Writer.ObjectWrite self.old self.new actor (Event.Put label.now fill.now) result }
-        ensures steady { IsSteady O.Objects O.Reader.ObjectRead O.Writer.ObjectWrite self.old → IsSteady O.Objects O.Reader.ObjectRead O.Writer.ObjectWrite self.new }
+        ensures steps { Steps D.Disk O.Objects O.Reader.ObjectRead O.Writer.ObjectWrite self.old self.new actor (Event.Put label.now fill.now) result }
+        ensures media { MediaStays D.Disk O.Objects self.old self.new }
+        ensures cause { IsCaused D.Disk O.Objects O.Reader.ObjectRead O.Writer.ObjectWrite self.old self.new actor (Event.Put label.now fill.now) result }
+        ensures steady { IsSteady D.Disk O.Objects O.Reader.ObjectRead O.Writer.ObjectWrite self.old → IsSteady D.Disk O.Objects O.Reader.ObjectRead O.Writer.ObjectWrite self.new }
     {
         match self.take_hand(actor, label) {
             None => Reply::Refused(Refusal::BadLabel),

@@ -24,6 +24,7 @@ use block_stream::BlockStream;
 use fs_model::label::Label;
 use fs_model::numbers::{Actor, BlockNo, FileId, TierNo, WorkerNo};
 use fs_model::reply::{Refusal, Reply};
+use outside::disk::Disk;
 use outside::objects::{ObjectRead, Objects};
 use outside::world::Fail;
 use std::alloc::Global;
@@ -93,7 +94,7 @@ fn left_of<R: ObjectRead>(stream: &Stream<R>, block: u32) -> u64
     (stream.len - stream.at).min(block - stream.at % block)
 }
 
-impl<O: Objects> Core<O, O::Reader, O::Writer> {
+impl<D: Disk, O: Objects> Core<D, O, O::Reader, O::Writer> {
     /// Opens the first worker's copy of a block, where that worker runs and has one, for `len` bytes from place `at`
     /// on.
     fn open_first(
@@ -181,10 +182,10 @@ impl<O: Objects> Core<O, O::Reader, O::Writer> {
     /// `next`: a source for the block of a stream's position.
     pub(crate) fn next(&mut self, alloc: Global, actor: Actor, label: &Label) -> Reply
         requires { is_actor actor ≡ true }
-        ensures steps { Steps O.Objects O.Reader.ObjectRead O.Writer.ObjectWrite self.old self.new actor (Event.Next label.now) result }
-        ensures media { MediaStays O.Objects self.old self.new }
-        ensures cause { IsCaused O.Objects O.Reader.ObjectRead O.Writer.ObjectWrite self.old self.new actor (Event.Next label.now) result }
-        ensures steady { IsSteady O.Objects O.Reader.ObjectRead O.Writer.ObjectWrite self.old → IsSteady O.Objects O.Reader.ObjectRead O.Writer.ObjectWrite self.new }
+        ensures steps { Steps D.Disk O.Objects O.Reader.ObjectRead O.Writer.ObjectWrite self.old self.new actor (Event.Next label.now) result }
+        ensures media { MediaStays D.Disk O.Objects self.old self.new }
+        ensures cause { IsCaused D.Disk O.Objects O.Reader.ObjectRead O.Writer.ObjectWrite self.old self.new actor (Event.Next label.now) result }
+        ensures steady { IsSteady D.Disk O.Objects O.Reader.ObjectRead O.Writer.ObjectWrite self.old → IsSteady D.Disk O.Objects O.Reader.ObjectRead O.Writer.ObjectWrite self.new }
     {
         match self.take_hand(actor, label) {
             None => Reply::Refused(Refusal::BadLabel),

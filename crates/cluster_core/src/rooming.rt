@@ -23,6 +23,7 @@ use crate::labels::Labelled;
 use fs_model::label::Label;
 use fs_model::numbers::Actor;
 use fs_model::reply::{Refusal, Reply, Which};
+use outside::disk::Disk;
 use outside::objects::Objects;
 use outside::world::Fail;
 use std::alloc::Global;
@@ -49,7 +50,7 @@ fn is_long(len: u64, block: u32) -> bool
     blocks_of(len, block) >= BLOCKS
 }
 
-impl<O: Objects> Core<O, O::Reader, O::Writer> {
+impl<D: Disk, O: Objects> Core<D, O, O::Reader, O::Writer> {
     /// Whether a new block is one too many.
     fn is_past_blocks(&self, writer: &Writer<O::Writer>) -> bool
         ensures { result ≡ (wants_room writer.now.bytes && nat_le 65536 (block_count writer.now.bytes.len self.now.block)) }
@@ -139,10 +140,10 @@ impl<O: Objects> Core<O, O::Reader, O::Writer> {
     ) -> Reply
         requires actor { is_actor actor ≡ true }
         requires back { MayPut self.old.hands.items actor label }
-        ensures steps { StepsFrom O.Objects O.Reader.ObjectRead O.Writer.ObjectWrite self.old self.new actor label writer (Event.Room label) result }
-        ensures media { MediaStays O.Objects self.old self.new }
+        ensures steps { StepsFrom D.Disk O.Objects O.Reader.ObjectRead O.Writer.ObjectWrite self.old self.new actor label writer (Event.Room label) result }
+        ensures media { MediaStays D.Disk O.Objects self.old self.new }
         ensures cause { OnlyTier (TierCounted O.Objects self.old self.new) result }
-        ensures steady { IsSteady O.Objects O.Reader.ObjectRead O.Writer.ObjectWrite self.old → IsHandSteady O.Reader.ObjectRead O.Writer.ObjectWrite (Hand.Writing writer) → IsSteady O.Objects O.Reader.ObjectRead O.Writer.ObjectWrite self.new }
+        ensures steady { IsSteady D.Disk O.Objects O.Reader.ObjectRead O.Writer.ObjectWrite self.old → IsHandSteady O.Reader.ObjectRead O.Writer.ObjectWrite (Hand.Writing writer) → IsSteady D.Disk O.Objects O.Reader.ObjectRead O.Writer.ObjectWrite self.new }
     {
         if let Some(refusal) = self.room_refusal(&writer) {
             return self.put_writer(actor, label, writer, Reply::Refused(refusal));
@@ -181,10 +182,10 @@ impl<O: Objects> Core<O, O::Reader, O::Writer> {
     /// `room`: opens the next block of a writer where one is wanted, and commits the full one before.
     pub(crate) fn room(&mut self, alloc: Global, actor: Actor, label: &Label) -> Reply
         requires { is_actor actor ≡ true }
-        ensures steps { Steps O.Objects O.Reader.ObjectRead O.Writer.ObjectWrite self.old self.new actor (Event.Room label.now) result }
-        ensures media { MediaStays O.Objects self.old self.new }
-        ensures cause { IsCaused O.Objects O.Reader.ObjectRead O.Writer.ObjectWrite self.old self.new actor (Event.Room label.now) result }
-        ensures steady { IsSteady O.Objects O.Reader.ObjectRead O.Writer.ObjectWrite self.old → IsSteady O.Objects O.Reader.ObjectRead O.Writer.ObjectWrite self.new }
+        ensures steps { Steps D.Disk O.Objects O.Reader.ObjectRead O.Writer.ObjectWrite self.old self.new actor (Event.Room label.now) result }
+        ensures media { MediaStays D.Disk O.Objects self.old self.new }
+        ensures cause { IsCaused D.Disk O.Objects O.Reader.ObjectRead O.Writer.ObjectWrite self.old self.new actor (Event.Room label.now) result }
+        ensures steady { IsSteady D.Disk O.Objects O.Reader.ObjectRead O.Writer.ObjectWrite self.old → IsSteady D.Disk O.Objects O.Reader.ObjectRead O.Writer.ObjectWrite self.new }
     {
         match self.take_writer(actor, label) {
             None => Reply::Refused(Refusal::BadLabel),

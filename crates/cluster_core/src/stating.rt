@@ -14,6 +14,7 @@ use fs_model::numbers::{Actor, BlockNo, FileId};
 use fs_model::path::Path;
 use fs_model::reply::{FileState, Refusal, Reply, Stored};
 use inode_tree::row::{Row, Walk};
+use outside::disk::Disk;
 use outside::objects::Objects;
 
 /// The state of a done file, by how it stands to its under-store and whether a block has no live copy.
@@ -37,7 +38,7 @@ fn state_by(stored: Stored, lost: bool) -> FileState
     }
 }
 
-impl<O: Objects> Core<O, O::Reader, O::Writer> {
+impl<D: Disk, O: Objects> Core<D, O, O::Reader, O::Writer> {
     /// Whether the first worker runs and has the block: until scripts start workers, no other has a live copy.
     fn first_has(&self, file: FileId, block: BlockNo) -> bool
         ensures { result ≡ first_has self.now.workers.items file block }
@@ -74,8 +75,8 @@ impl<O: Objects> Core<O, O::Reader, O::Writer> {
 
     /// `stat`: what is at the path.
     pub(crate) fn stat(&self, actor: Actor, path: &Path) -> Reply
-        ensures steps { Steps O.Objects O.Reader.ObjectRead O.Writer.ObjectWrite self.now self.now actor (Event.Stat path.now) result }
-        ensures cause { IsCaused O.Objects O.Reader.ObjectRead O.Writer.ObjectWrite self.now self.now actor (Event.Stat path.now) result }
+        ensures steps { Steps D.Disk O.Objects O.Reader.ObjectRead O.Writer.ObjectWrite self.now self.now actor (Event.Stat path.now) result }
+        ensures cause { IsCaused D.Disk O.Objects O.Reader.ObjectRead O.Writer.ObjectWrite self.now self.now actor (Event.Stat path.now) result }
     {
         match self.names.walk(path) {
             Walk::Absent => Reply::Refused(Refusal::NotFound),

@@ -12,19 +12,20 @@ use crate::cluster::Core;
 use fs_model::event::{Event, ReadType, WriteType};
 use fs_model::numbers::Actor;
 use fs_model::reply::Reply;
+use outside::disk::Disk;
 use outside::objects::Objects;
 use std::alloc::Global;
 
-impl<O: Objects> Core<O, O::Reader, O::Writer> {
+impl<D: Disk, O: Objects> Core<D, O, O::Reader, O::Writer> {
     /// Does one event of an actor, and answers it: the event is one that the program has, and that a script can spell.
     pub fn step(&mut self, alloc: Global, actor: Actor, event: &Event) -> Reply
         requires actor { is_actor actor ≡ true }
         requires built { is_built event.now ≡ true }
         requires spelled { is_spelled event.now ≡ true }
-        ensures steps { Steps O.Objects O.Reader.ObjectRead O.Writer.ObjectWrite self.old self.new actor event.now result }
-        ensures media { MediaStays O.Objects self.old self.new }
-        ensures cause { IsCaused O.Objects O.Reader.ObjectRead O.Writer.ObjectWrite self.old self.new actor event.now result }
-        ensures steady { IsSteady O.Objects O.Reader.ObjectRead O.Writer.ObjectWrite self.old → IsSteady O.Objects O.Reader.ObjectRead O.Writer.ObjectWrite self.new }
+        ensures steps { Steps D.Disk O.Objects O.Reader.ObjectRead O.Writer.ObjectWrite self.old self.new actor event.now result }
+        ensures media { MediaStays D.Disk O.Objects self.old self.new }
+        ensures cause { IsCaused D.Disk O.Objects O.Reader.ObjectRead O.Writer.ObjectWrite self.old self.new actor event.now result }
+        ensures steady { IsSteady D.Disk O.Objects O.Reader.ObjectRead O.Writer.ObjectWrite self.old → IsSteady D.Disk O.Objects O.Reader.ObjectRead O.Writer.ObjectWrite self.new }
     {
         match event {
             Event::Mkdir { path } => self.mkdir(alloc, actor, path),

@@ -15,6 +15,7 @@ use crate::hand::Writer;
 use crate::node::{Node, Space};
 use file_writer::writer::FileWriter;
 use fs_model::numbers::WorkerNo;
+use outside::disk::Disk;
 use outside::objects::{ObjectWrite, Objects};
 use outside::world::Fail;
 
@@ -44,7 +45,7 @@ fn fill<W: ObjectWrite>(bytes: &mut FileWriter<W>, writer: W)
     bytes.supply(Some(writer));
 }
 
-impl<O: Objects> Core<O, O::Reader, O::Writer> {
+impl<D: Disk, O: Objects> Core<D, O, O::Reader, O::Writer> {
     /// Makes space for a block at a worker that is there, as `Node::make_space` does.
     fn space_at(&mut self, worker: WorkerNo, len: u64) -> Result<Option<Space<O::Writer>>, Fail>
         requires some { 0 < worker }

@@ -13,10 +13,11 @@ use crate::hand::Hand;
 use crate::labels::Labelled;
 use fs_model::label::Label;
 use fs_model::numbers::Actor;
+use outside::disk::Disk;
 use outside::objects::Objects;
 use std::alloc::AllocError;
 
-impl<O: Objects> Core<O, O::Reader, O::Writer> {
+impl<D: Disk, O: Objects> Core<D, O, O::Reader, O::Writer> {
     /// Whether the actor has the label.
     pub(crate) fn has_label(&self, actor: Actor, label: &Label) -> bool
         requires { is_actor actor ≡ true }

@@ -13,6 +13,7 @@ use crate::hand::{Hand, Writer};
 use crate::labels::Labelled;
 use fs_model::label::Label;
 use fs_model::numbers::Actor;
+use outside::disk::Disk;
 use outside::objects::{ObjectWrite, Objects};
 
 /// The unbroken writer that the hand is, or the hand again.
@@ -32,7 +33,7 @@ fn writer_of<R, W: ObjectWrite>(hand: Hand<R, W>) -> Result<Writer<W>, Hand<R, W
     }
 }
 
-impl<O: Objects> Core<O, O::Reader, O::Writer> {
+impl<D: Disk, O: Objects> Core<D, O, O::Reader, O::Writer> {
     /// Takes the unbroken writer under the actor's label out, with the label; `None` exactly where there is none, and
     /// then each label has what it had.
     pub(crate) fn take_writer(

@@ -5,11 +5,11 @@ use Rattle.outside.specs.Causes.{Rose}
 use Rattle.outside.specs.Streams.{Takes}
 use Rattle.node_main.specs.declared.run.End.{End}
 use Rattle.node_main.specs.declared.run.End.TheVariants as ends
-use Rattle.outside.specs.Shelf.{Shelf}
+use Rattle.outside.specs.declared.disk.Disk as disks
 use Rattle.outside.specs.declared.objects.Objects as objects
 use Rattle.outside.specs.declared.objects.ObjectRead as reads
 use Rattle.outside.specs.declared.objects.ObjectWrite as writes
-use Rattle.node_main.specs.Ends.{Attempted, BeforeLine, BeforeStop, Ended, FinishedAs, Held, IsDue, ToldAs, end_text, status_of}
+use Rattle.node_main.specs.Ends.{Attempted, BeforeLine, BeforeStop, Ended, FinishedAs, Held, IsDue, Kept, ToldAs, end_text, status_of}
 
 -- a count that rose later rose since before
 pub rose_since : (a b c : ℕ) → a ≤ b → Rose b c → Rose a c
@@ -53,9 +53,9 @@ untold ends.BadSetup d w = IsUntold.setup
 untold (ends.Damaged area place) d w = IsUntold.damage area place
 untold ends.JournalFault d w = IsUntold.journal
 
-module _ {S R W : Type 0} (o : objects.Ghosts S R W) (r : reads.Ghosts R) (w : writes.Ghosts W) (old new : Option Shelf) (held : Option Held) (words : List (List ℕ)) (before mid after : Option (List ℕ)) (world input early sink later : Type 0) (since : later → sink) where
+module _ {D S R W : Type 0} (d : disks.Ghosts D) (o : objects.Ghosts S R W) (r : reads.Ghosts R) (w : writes.Ghosts W) (old new : Kept) (held : Option Held) (words : List (List ℕ)) (before mid after : Option (List ℕ)) (world input early sink later : Type 0) (since : later → sink) where
   -- what the sink took before the line of an end
-  before_stop : (end : End) → IsUntold end → Attempted o r w old new held words before mid world input early end → BeforeStop o r w old new held words before mid
+  before_stop : (end : End) → IsUntold end → Attempted d o r w old new held words before mid world input early end → BeforeStop d o r w old new held words before mid
   before_stop ends.Done u a = elim u [ ]
   before_stop ends.BadWords u a = inl (a.1, inl a.2)
   before_stop (ends.BadScript line) u a = inl (a.1, inl a.2)
@@ -69,7 +69,7 @@ module _ {S R W : Type 0} (o : objects.Ghosts S R W) (r : reads.Ghosts R) (w : w
   before_stop ends.JournalFault u a = absurd a.0
 
   -- its cause with that
-  before_line : (end : End) → IsUntold end → Attempted o r w old new held words before mid world input early end → BeforeLine o r w old new held words before mid world input end
+  before_line : (end : End) → IsUntold end → Attempted d o r w old new held words before mid world input early end → BeforeLine d o r w old new held words before mid world input end
   before_line ends.Done u a = elim u [ ]
   before_line ends.BadWords u a = a
   before_line (ends.BadScript line) u a = a
@@ -86,7 +86,7 @@ module _ {S R W : Type 0} (o : objects.Ghosts S R W) (r : reads.Ghosts R) (w : w
   moved text e t = subst (λ x. Takes x after text) e t
 
   -- the line was told
-  told : (end : End) → IsUntold end → Attempted o r w old new held words before mid world input early end → Takes mid after (end_text end) → Ended o r w old new held words before after world input sink end
+  told : (end : End) → IsUntold end → Attempted d o r w old new held words before mid world input early end → Takes mid after (end_text end) → Ended d o r w old new held words before after world input sink end
   told ends.Done u a t = elim u [ ]
   told ends.BadWords u a t = (a.0, moved _ a.1 t, a.2)
   told (ends.BadScript line) u a t = (a.0, moved _ a.1 t, a.2)
@@ -99,18 +99,18 @@ module _ {S R W : Type 0} (o : objects.Ghosts S R W) (r : reads.Ghosts R) (w : w
   told (ends.Damaged area place) u a t = absurd a.0
   told ends.JournalFault u a t = absurd a.0
 
-  partly : (end : End) → BeforeLine o r w old new held words before mid world input end → (bytes : ℕ) → Takes mid after (take bytes (end_text end)) → later → Ended o r w old new held words before after world input sink ends.WriteFault
+  partly : (end : End) → BeforeLine d o r w old new held words before mid world input end → (bytes : ℕ) → Takes mid after (take bytes (end_text end)) → later → Ended d o r w old new held words before after world input sink ends.WriteFault
   partly end lines bytes t r = (since r, inr (record { end = end; between = mid; lines = lines; bytes = bytes; stop = t }))
 
-  told_as : (end : End) → IsUntold end → Attempted o r w old new held words before mid world input early end → (result : End) → ToldAs end mid after later result → Ended o r w old new held words before after world input sink result
+  told_as : (end : End) → IsUntold end → Attempted d o r w old new held words before mid world input early end → (result : End) → ToldAs end mid after later result → Ended d o r w old new held words before after world input sink result
   told_as end u a result (ToldAs.Told t) = told end u a t
   told_as end u a result (ToldAs.Partly bytes t r) = partly end (before_line end u a) bytes t r
 
-  memory_as : BeforeStop o r w old new held words before mid → (result : End) → ToldAs ends.Memory mid after later result → Ended o r w old new held words before after world input sink result
+  memory_as : BeforeStop d o r w old new held words before mid → (result : End) → ToldAs ends.Memory mid after later result → Ended d o r w old new held words before after world input sink result
   memory_as lines result (ToldAs.Told t) = record { between = mid; lines = lines; stop = t }
   memory_as lines result (ToldAs.Partly bytes t r) = partly ends.Memory lines bytes t r
 
-  pub finished : (end : End) → IsUntold end → Attempted o r w old new held words before mid world input early end → (result : End) → FinishedAs end mid after later result → Ended o r w old new held words before after world input sink result
+  pub finished : (end : End) → IsUntold end → Attempted d o r w old new held words before mid world input early end → (result : End) → FinishedAs end mid after later result → Ended d o r w old new held words before after world input sink result
   finished end u a result (inl t) = told_as end u a result t
   finished end u a result (inr t) = memory_as (before_stop end u a) result t
 

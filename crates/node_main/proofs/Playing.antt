@@ -1,9 +1,10 @@
 -- What a script's play says of the run that it belongs to.
-use Rattle.std.proofs.Common.{◌≡◌, ℕ, List, Option, Some, None, Result, Ok, Err, ◌⊎◌, inl, inr, refl, sym, subst}
+use Rattle.std.proofs.Common.{◌≡◌, ℕ, List, Option, Some, None, Result, Ok, Err, ◌⊎◌, inl, inr, refl, sym, ◌∙◌, subst}
 use Rattle.std.specs.Prelude.{IsSomeAnd, IfSome, OnOk}
 use Rattle.fs_model.specs.declared.stop.Stop.{Stop}
+use Rattle.outside.specs.AreaShelf.{AreaShelf, KeepsAreasBut}
 use Rattle.outside.specs.Inputs.{named}
-use Rattle.outside.specs.Shelf.{Shelf}
+use Rattle.outside.specs.declared.disk.Disk as disks
 use Rattle.outside.specs.declared.objects.Objects as objects
 use Rattle.outside.specs.declared.objects.ObjectRead as reads
 use Rattle.outside.specs.declared.objects.ObjectWrite as writes
@@ -14,7 +15,7 @@ use Rattle.script_text.specs.ScriptText.{read_script}
 use Rattle.cluster_core.specs.declared.cluster.Core.{Core}
 use Rattle.node_main.specs.declared.run.End.{End}
 use Rattle.node_main.specs.declared.run.End.TheVariants as ends
-use Rattle.node_main.specs.Ends.{Attempted, Held, Holds, IsScript, IsUntouched, Plays, PlaysFront, PlaysPartly, PlaysSo, end_of_reading, end_of_stop}
+use Rattle.node_main.specs.Ends.{Attempted, Held, Holds, HoldsSame, IsScript, IsUntouched, Kept, Plays, PlaysFront, PlaysPartly, PlaysSo, end_of_reading, end_of_stop}
 use Rattle.node_main.specs.Words.{play_words}
 
 -- ---- what is held
@@ -38,6 +39,13 @@ on_ok (Err y) x P e h = absurd (cc)
 
 pub at_some : {T : Type 0} (found : Option T) (x : T) (P : T → Type 0) → found ≡ Some x → IfSome found P → P x
 at_some found x P e h = subst (λ y. IfSome y P) e h
+
+-- areas under other names stay over two calls
+pub areas_then : (name : List ℕ) (old mid new : Option AreaShelf) → KeepsAreasBut name old mid → KeepsAreasBut name mid new → KeepsAreasBut name old new
+areas_then name None mid new first next = record { tells = next.tells ∙ first.tells; others = tt }
+areas_then name (Some before) None new first next = let e = first.tells in cc
+areas_then name (Some before) (Some between) None first next = let e = next.tells in cc
+areas_then name (Some before) (Some between) (Some after) first next = record { tells = refl; others = λ other e. next.others other e ∙ first.others other e }
 
 -- ---- the ends of a play
 
@@ -75,9 +83,9 @@ of_play read end (inr (inl e)) = subst IsOfPlay (sym e) IsOfPlay.memory
 of_play read end (inr (inr (inl e))) = subst IsOfPlay (sym e) IsOfPlay.write
 of_play read end (inr (inr (inr e))) = subst IsOfPlay (sym e) IsOfPlay.unopened
 
-module _ {S R W : Type 0} (o : objects.Ghosts S R W) (r : reads.Ghosts R) (w : writes.Ghosts W) (old new : Option Shelf) where
+module _ {D S R W : Type 0} (d : disks.Ghosts D) (o : objects.Ghosts S R W) (r : reads.Ghosts R) (w : writes.Ghosts W) (old new : Kept) where
   -- commands of a script are also those of what it was read from
-  pub so_for : (T : List Command → Core S R W w → Core S R W w → Type 0) (P Q : List Command → Type 0) → ((commands : List Command) → P commands → Q commands) → PlaysSo o r w old new T P → PlaysSo o r w old new T Q
+  pub so_for : (T : List Command → Core D S R W d w → Core D S R W d w → Type 0) (P Q : List Command → Type 0) → ((commands : List Command) → P commands → Q commands) → PlaysSo d o r w old new T P → PlaysSo d o r w old new T Q
   so_for T P Q f p = record { commands = p.commands; script = f p.commands p.script; lent = p.lent; held = p.held; played = p.played }
 
   module _ (held : Option Held) (words : List (List ℕ)) (names : List ℕ × List ℕ) (are : Some names ≡ play_words words) (text : List ℕ) (is : Holds held names.1 (λ h. text ≡ h)) (before after : Option (List ℕ)) (world input sink : Type 0) where
@@ -90,18 +98,18 @@ module _ {S R W : Type 0} (o : objects.Ghosts S R W) (r : reads.Ghosts R) (w : w
 
     -- what a play of the text says is what an attempt says
     pub attempted : (end : End)
-        → (end ≡ ends.Done → Plays o r w old new (λ commands. read_script text ≡ Ok commands) before after)
-        → (end ≡ ends.WriteFault → PlaysPartly o r w old new (λ commands. read_script text ≡ Ok commands) before after)
-        → (end ≡ ends.Memory → ((after ≡ before) × IsUntouched o r w old new) ⊎ PlaysFront o r w old new (λ commands. read_script text ≡ Ok commands) before after)
-        → (end ≡ ends.OpenFault → world × (after ≡ before) × (new ≡ old))
-        → ((line : ℕ) → end ≡ ends.BadScript line → (read_script text ≡ Err (BadLine line)) × (after ≡ before) × (new ≡ old))
+        → (end ≡ ends.Done → Plays d o r w old new (λ commands. read_script text ≡ Ok commands) before after)
+        → (end ≡ ends.WriteFault → PlaysPartly d o r w old new (λ commands. read_script text ≡ Ok commands) before after)
+        → (end ≡ ends.Memory → ((after ≡ before) × IsUntouched d o r w old new) ⊎ PlaysFront d o r w old new (λ commands. read_script text ≡ Ok commands) before after)
+        → (end ≡ ends.OpenFault → world × (after ≡ before) × HoldsSame old new)
+        → ((line : ℕ) → end ≡ ends.BadScript line → (read_script text ≡ Err (BadLine line)) × (after ≡ before) × HoldsSame old new)
         → (end ≡ ends.WriteFault → sink)
         → (end ≡ end_of_reading (read_script text)) ⊎ (end ≡ ends.Memory) ⊎ (end ≡ ends.WriteFault) ⊎ (end ≡ ends.OpenFault)
-        → Attempted o r w old new held words before after world input sink end
+        → Attempted d o r w old new held words before after world input sink end
     unfolding Read
     attempted end whole partly short unopened_as bad_at rose due = by_end end (of_play (read_script text) end due) refl
       where
-        by_end : (e : End) → IsOfPlay e → end ≡ e → Attempted o r w old new held words before after world input sink e
+        by_end : (e : End) → IsOfPlay e → end ≡ e → Attempted d o r w old new held words before after world input sink e
         by_end ends.Done u h = at_names (play_words words) names _ are (so_for _ _ _ of_held (whole h))
         by_end (ends.BadScript line) u h = let b = bad_at line h in (at_names (play_words words) names _ are (held_as held names.1 text (λ t. read_script t ≡ Err (BadLine line)) is b.0), b.1, b.2)
         by_end ends.Memory u h = elim (short h) [

@@ -4,9 +4,11 @@ use Rattle.std.specs.Fmt.{decimal}
 use Rattle.fs_model.specs.declared.setup.Setup.{Setup}
 use Rattle.fs_model.specs.declared.stop.Stop.{Stop}
 use Rattle.fs_model.specs.Examples.{two_workers}
+use Rattle.outside.specs.AreaShelf.{AreFresh, AreaShelf, HoldsAreas}
 use Rattle.outside.specs.Inputs.{named, is_missed}
 use Rattle.outside.specs.Shelf.{EachNamed, HasShape, NameLists, Shelf, TellsHeld}
 use Rattle.outside.specs.Streams.{Takes}
+use Rattle.outside.specs.declared.disk.Disk as disks
 use Rattle.outside.specs.declared.media.Media.{Media}
 use Rattle.outside.specs.declared.objects.Objects as objects
 use Rattle.outside.specs.declared.objects.ObjectRead as reads
@@ -21,6 +23,15 @@ use Rattle.node_main.specs.declared.run.End.{End}
 use Rattle.node_main.specs.declared.run.End.TheVariants as ends
 use Rattle.node_main.specs.declared.run.TheConstants.{LIMIT}
 use Rattle.node_main.specs.Words.{play_words}
+
+-- what a world holds of stores and tiers, and of areas, where it tells
+abbrev pub Kept : Type 0
+Kept = Option Shelf × Option AreaShelf
+
+-- it holds the same
+pub record HoldsSame (old new : Kept) : Type 0 where
+  pub shelf : new.0 ≡ old.0
+  pub areas : new.1 ≡ old.1
 
 -- what a world holds under each name
 abbrev pub Held : Type 0
@@ -125,47 +136,53 @@ Cause held words world_rose input_rose ends.Memory = ⊤
 Cause held words world_rose input_rose ends.TooLong = IsSomeAnd (play_words words) (λ names. IsLonger held names.1 LIMIT)
 Cause held words world_rose input_rose ends.OpenFault = IsSomeAnd (play_words words) (λ names. world_rose ⊎ IsTrue (is_missed held names.0 names.1))
 
--- the names of the example's stores and tiers
+-- the names of the example's areas, stores and tiers
 abbrev pub media_names : NameLists
-media_names = record { stores = codes "s" ∷ codes "t" ∷ []; tiers = (codes "m1" ∷ codes "d1" ∷ []) ∷ (codes "m2" ∷ []) ∷ [] }
+media_names = record { journal = codes "j"; stores = codes "s" ∷ codes "t" ∷ []; tiers = (codes "m1" ∷ codes "d1" ∷ []) ∷ (codes "m2" ∷ []) ∷ [] }
 
-module _ {S R W : Type 0} (o : objects.Ghosts S R W) (r : reads.Ghosts R) (w : writes.Ghosts W) where
+module _ {D S R W : Type 0} (d : disks.Ghosts D) (o : objects.Ghosts S R W) (r : reads.Ghosts R) (w : writes.Ghosts W) where
   -- these media tell what such a world holds under the example's names
-  pub record IsHeld (shelf : Option Shelf) (media : Media S) : Type 0 where
+  pub record IsHeld (kept : Kept) (media : Media D S) : Type 0 where
     pub shape : HasShape media_names media
-    pub each : EachNamed (TellsHeld o.told shelf) media_names media
+    pub each : EachNamed (TellsHeld o.told kept.0) media_names media
+    pub areas : HoldsAreas d.tells d.history kept.1 media_names.journal media.areas
+
+  -- such a world lends them: besides, the areas tell where it does, and have no fuse
+  pub record IsLent (kept : Kept) (media : Media D S) : Type 0 where
+    pub held : IsHeld kept media
+    pub fresh : AreFresh d.tells kept.1 media.areas
 
   -- media that were lent were given back as a play left them, to a world that holds this then; P holds from the core at its beginning to the one at its end
-  pub record GivesBack (U : Setup) (shelf : Option Shelf) (P : Core S R W w → Core S R W w → Type 0) (lent : Media S) : Type 0 where
-    pub back : Media S
-    pub held : IsHeld shelf back
-    pub between : Between o r w U lent back P
+  pub record GivesBack (U : Setup) (kept : Kept) (P : Core D S R W d w → Core D S R W d w → Type 0) (lent : Media D S) : Type 0 where
+    pub back : Media D S
+    pub held : IsHeld kept back
+    pub between : Between d o r w U lent back P
 
--- from here on: what the world holds of stores and tiers before and after
-module _ {S R W : Type 0} (o : objects.Ghosts S R W) (r : reads.Ghosts R) (w : writes.Ghosts W) (old new : Option Shelf) where
+-- from here on: what the world holds of areas, stores and tiers before and after
+module _ {D S R W : Type 0} (d : disks.Ghosts D) (o : objects.Ghosts S R W) (r : reads.Ghosts R) (w : writes.Ghosts W) (old new : Kept) where
   -- commands of such a script were played over the example's configuration, on media that were lent and given back
-  pub record PlaysSo (P : List Command → Core S R W w → Core S R W w → Type 0) (is_script : List Command → Type 0) : Type 0 where
+  pub record PlaysSo (P : List Command → Core D S R W d w → Core D S R W d w → Type 0) (is_script : List Command → Type 0) : Type 0 where
     pub commands : List Command
     pub script : is_script commands
-    pub lent : Media S
-    pub held : IsHeld o r w old lent
-    pub played : GivesBack o r w two_workers new (P commands) lent
+    pub lent : Media D S
+    pub held : IsLent d o r w old lent
+    pub played : GivesBack d o r w two_workers new (P commands) lent
 
   -- they were played to their end
   abbrev pub Plays : (List Command → Type 0) → Option (List ℕ) → Option (List ℕ) → Type 0
-  Plays is_script before after = PlaysSo (λ commands first last. Tells o r w commands first last before after) is_script
+  Plays is_script before after = PlaysSo (λ commands first last. Tells d o r w commands first last before after) is_script
 
   -- the first of them were played
   abbrev pub PlaysFront : (List Command → Type 0) → Option (List ℕ) → Option (List ℕ) → Type 0
-  PlaysFront is_script before after = PlaysSo (λ commands first last. TellsFront o r w commands first last before after) is_script
+  PlaysFront is_script before after = PlaysSo (λ commands first last. TellsFront d o r w commands first last before after) is_script
 
   -- and a front of their lines' text was taken
   abbrev pub PlaysPartly : (List Command → Type 0) → Option (List ℕ) → Option (List ℕ) → Type 0
-  PlaysPartly is_script before after = PlaysSo (λ commands first last. TellsPartly o r w commands first last before after) is_script
+  PlaysPartly is_script before after = PlaysSo (λ commands first last. TellsPartly d o r w commands first last before after) is_script
 
   -- no medium was lent, or they were given back as they were
   abbrev pub IsUntouched : Type 0
-  IsUntouched = (new ≡ old) ⊎ (media : Media S) × IsHeld o r w old media × IsHeld o r w new media
+  IsUntouched = HoldsSame old new ⊎ (media : Media D S) × IsLent d o r w old media × IsHeld d o r w new media
 
   -- nothing was done yet, or the lines of the first commands were taken
   abbrev pub BeforeStop : Option Held → List (List ℕ) → Option (List ℕ) → Option (List ℕ) → Type 0
@@ -182,7 +199,7 @@ module _ {S R W : Type 0} (o : objects.Ghosts S R W) (r : reads.Ghosts R) (w : w
   BeforeLine held words before after world_rose input_rose ends.Done = ⊥
   BeforeLine held words before after world_rose input_rose ends.WriteFault = ⊥
   BeforeLine held words before after world_rose input_rose ends.Memory = BeforeStop held words before after
-  BeforeLine held words before after world_rose input_rose end = Cause held words world_rose input_rose end × (after ≡ before) × (new ≡ old)
+  BeforeLine held words before after world_rose input_rose end = Cause held words world_rose input_rose end × (after ≡ before) × HoldsSame old new
 
   -- the end has its cause, and a front of its line was taken
   pub record StopsPartly (held : Option Held) (words : List (List ℕ)) (before after : Option (List ℕ)) (world_rose input_rose : Type 0) : Type 0 where
@@ -207,7 +224,7 @@ module _ {S R W : Type 0} (o : objects.Ghosts S R W) (r : reads.Ghosts R) (w : w
   Ended held words before after world_rose input_rose sink_rose ends.Done = IsSomeAnd (play_words words) (λ names. Plays (IsScript held names.1) before after)
   Ended held words before after world_rose input_rose sink_rose ends.WriteFault = sink_rose × WritesPartly held words before after world_rose input_rose
   Ended held words before after world_rose input_rose sink_rose ends.Memory = Stops held words ends.Memory before after
-  Ended held words before after world_rose input_rose sink_rose end = Cause held words world_rose input_rose end × Takes before after (end_text end) × (new ≡ old)
+  Ended held words before after world_rose input_rose sink_rose end = Cause held words world_rose input_rose end × Takes before after (end_text end) × HoldsSame old new
 
 -- ---- telling the line of an end
 

@@ -1,17 +1,20 @@
-//! Files as inputs, and an output, as the system has them; stores and tiers in memory. A source or sink tells where its
-//! reader or writer does, which the system's don't.
+//! Files as inputs, and an output, as the system has them; areas, stores and tiers in memory. A source or sink tells
+//! where its reader or writer does, which the system's don't.
 
-ghost use Rattle.std.specs.Prelude.{◌≡◌, ◌≤◌, [], IfOk, IfSome, IsOk, IsSomeAnd, IsTrue, is_some, None, Some, option_map, refl};
+ghost use Rattle.std.specs.Prelude.{◌≡◌, ◌≤◌, [], IfOk, IfSome, IsOk, IsSomeAnd, IsTrue, is_some, None, Some, option_map, refl, true};
+ghost use Rattle.outside.specs.AreaShelf.{HoldsAreas, KeepsAreasBut};
 ghost use Rattle.outside.specs.Causes.{Rose};
 ghost use Rattle.outside.specs.Shelf.{EachNamed, HasShape, KeepsBut, TellsHeld, all_names, are_distinct, name_lists};
 ghost use Rattle.outside.specs.Streams.{Pulls, Pushes};
+ghost use Rattle.outside_mem.specs.Disks.{disk_history};
 ghost use Rattle.outside_mem.specs.Named.{shelf_of, told_of};
+ghost use Rattle.outside_mem.specs.NamedAreas.{areas_of};
 ghost use Rattle.node_main.specs.Files.{file_left, is_named};
 
 use outside::media::{Media, MediaNames};
 use outside::stream::{Fault, Sink, Source};
 use outside::world::{Fail, World};
-use outside_mem::{MemObjects, MemShelf};
+use outside_mem::{MemDisk, MemObjects, MemShelf};
 use std::alloc::Global;
 use std::fs::{self, File};
 use std::io::{Print, Printer, Read, Write};
@@ -123,8 +126,8 @@ impl<W: SteadyWrite + Drop> Sink for OutSink<W> {
     }
 }
 
-/// The files of the system as inputs, and an output. Its stores and tiers are in memory: they tell all that they hold,
-/// and end with it.
+/// The files of the system as inputs, and an output. Its areas, stores and tiers are in memory: they tell all that they
+/// hold, and end with it.
 #[derive(Drop)]
 pub struct RealWorld<R: Files + Drop, W: SteadyWrite + Drop>
 where
@@ -142,10 +145,10 @@ impl<R: Files + Drop, W: SteadyWrite + Drop> RealWorld<R, W>
 where
     R::File: SteadyRead + Drop,
 {
-    /// The world with no input open, no store or tier yet, and nothing failed; takes no memory.
+    /// The world with no input open, no area, store or tier yet, and nothing failed; takes no memory.
     pub fn new(alloc: Global, rt: R, out: W) -> Self
         ensures counts { result.faults ≡ 0 × result.script.faults ≡ 0 × result.out.faults ≡ 0 }
-        ensures shelf { (result.shelf.stores.items ≡ []) × (result.shelf.lent ≡ None) }
+        ensures shelf { (result.shelf.stores.items ≡ []) × (result.shelf.areas.items ≡ []) × (result.shelf.lent ≡ None) }
     {
         RealWorld {
             rt,
@@ -186,6 +189,8 @@ where
 
     type Out = OutSink<W>;
 
+    type Area = MemDisk;
+
     type Store = MemObjects;
 
     ghost held = { λ _. None };
@@ -201,6 +206,8 @@ where
     ghost with_output = { λ w o. record w { out = o } };
 
     ghost shelf = { λ w. Some (shelf_of w.shelf.stores.items) };
+
+    ghost areas = { λ w. Some (areas_of w.shelf.areas.items) };
 
     ghost lent = { λ w. option_map name_lists w.shelf.lent };
 
@@ -231,14 +238,16 @@ where
     }
 
     /// Fails for want of memory alone.
-    fn assemble(&mut self, names: &MediaNames) -> Result<Media<MemObjects>, Fail> {
+    fn assemble(&mut self, names: &MediaNames) -> Result<Media<MemDisk, MemObjects>, Fail> {
         Ok(self.shelf.lend(names)?)
     }
 
-    fn give_back(&mut self, media: Media<MemObjects>)
+    fn give_back(&mut self, media: Media<MemDisk, MemObjects>)
         requires { IsSomeAnd (option_map name_lists self.old.shelf.lent) (λ names. HasShape names media) }
         ensures told { IfSome (option_map name_lists self.old.shelf.lent) (λ names. EachNamed (TellsHeld told_of (Some (shelf_of self.new.shelf.stores.items))) names media) }
         ensures others { IfSome (option_map name_lists self.old.shelf.lent) (λ names. KeepsBut (all_names names) (Some (shelf_of self.old.shelf.stores.items)) (Some (shelf_of self.new.shelf.stores.items))) }
+        ensures areas { IfSome (option_map name_lists self.old.shelf.lent) (λ names. HoldsAreas (λ _. true) disk_history (Some (areas_of self.new.shelf.areas.items)) names.journal media.areas) }
+        ensures areas_others { IfSome (option_map name_lists self.old.shelf.lent) (λ names. KeepsAreasBut names.journal (Some (areas_of self.old.shelf.areas.items)) (Some (areas_of self.new.shelf.areas.items))) }
         ensures idle { option_map name_lists self.new.shelf.lent ≡ None }
         ensures faults { self.new.faults ≡ self.old.faults }
         ensures output { self.new.out ≡ self.old.out }
@@ -258,6 +267,8 @@ where
 
     ghost script_keeps_shelf = { λ w i. refl };
 
+    ghost script_keeps_areas = { λ w i. refl };
+
     ghost script_keeps_lent = { λ w i. refl };
 
     ghost script_keeps_faults = { λ w i. refl };
@@ -274,6 +285,8 @@ where
 
     ghost output_keeps_shelf = { λ w o. refl };
 
+    ghost output_keeps_areas = { λ w o. refl };
+
     ghost output_keeps_lent = { λ w o. refl };
 
     ghost output_keeps_faults = { λ w o. refl };
@@ -284,6 +297,7 @@ where
 #[cfg(test)]
 mod tests {
     use super::{RealWorld, SteadyWrite};
+    use outside::disk::Disk;
     use outside::key::Key;
     use outside::media::MediaNames;
     use outside::objects::Objects;
@@ -340,11 +354,12 @@ mod tests {
         Ok(())
     }
 
-    /// One store, and no worker.
+    /// A journal and one store, and no worker.
     fn one_store(alloc: Global) -> Result<MediaNames, AllocError> {
         let mut stores = Vec::new(alloc);
         stores.push(String::from_str(alloc, "under")?)?;
         Ok(MediaNames {
+            journal: String::from_str(alloc, "journal")?,
             stores,
             tiers: Vec::new(alloc),
         })
@@ -398,6 +413,40 @@ mod tests {
         assert!(rt; names.are_distinct());
         assert_eq!(rt; had_object(alloc, &mut world, &names), Ok(false));
         assert_eq!(rt; had_object(alloc, &mut world, &names), Ok(true));
+        Ok(())
+    }
+
+    /// Writes one byte at the beginning of an area.
+    fn write_byte<D: Disk>(area: &mut D) -> Result<(), Failure> {
+        area.reserve(1, 1, 1)?;
+        match area.write_at(0, b"x") {
+            Ok(()) => Ok(()),
+            Err(_) => Err(Failure::Failed),
+        }
+    }
+
+    /// Whether the journal's second area held something, before a byte is written there.
+    fn had_byte<W: World>(world: &mut W, names: &MediaNames) -> Result<bool, Failure>
+        requires idle { W.lent world.old ≡ None }
+        requires distinct { IsTrue (are_distinct (all_names (name_lists names.now))) }
+        ensures idle { W.lent world.new ≡ None }
+    {
+        let mut media = world.assemble(names)?;
+        let had = matches!(media.areas.1.len(), Ok(len) if len > 0);
+        let written = write_byte(&mut media.areas.1);
+        world.give_back(media);
+        written?;
+        Ok(had)
+    }
+
+    #[test]
+    fn areas_keep_their_bytes_while_the_world_lasts(rt: HostRuntime) -> Result<(), Fail> {
+        let alloc = rt.alloc();
+        let mut world = RealWorld::new(alloc, rt.clone()?, Vec::new(alloc));
+        let names = one_store(alloc)?;
+        assert!(rt; names.are_distinct());
+        assert_eq!(rt; had_byte(&mut world, &names), Ok(false));
+        assert_eq!(rt; had_byte(&mut world, &names), Ok(true));
         Ok(())
     }
 }

@@ -6,6 +6,7 @@ ghost use Rattle.std.specs.List.{list_all};
 ghost use Rattle.fs_model.specs.declared.stop.Stop.{Stop};
 ghost use Rattle.fs_model.specs.Examples.{two_workers};
 ghost use Rattle.fs_model.specs.Spelled.{is_setup};
+ghost use Rattle.outside.specs.AreaShelf.{KeepsAreasBut};
 ghost use Rattle.outside.specs.Causes.{Rose};
 ghost use Rattle.outside.specs.Inputs.{is_missed};
 ghost use Rattle.outside.specs.Shelf.{HasShape, KeepsBut, all_names, name_lists};
@@ -16,7 +17,7 @@ ghost use Rattle.cluster_core.specs.Begun.{MediaFit};
 ghost use Rattle.play_run.specs.Play.{Between, Tells, TellsFront, TellsPartly};
 ghost use Rattle.script_text.specs.declared.read.ScriptFault.TheVariants.{BadLine};
 ghost use Rattle.node_main.specs.Words.{is_file_word, play_words};
-ghost use Rattle.node_main.specs.Ends.{Attempted, Ended, FinishedAs, GivesBack, Holds, IsBadAt, IsDue, IsHeld, IsLonger, IsScript, IsUntouched, Plays, PlaysFront, PlaysPartly, Stops, ToldAs, WritesPartly, end_of_reading, end_of_stop, end_text, media_names, status_of};
+ghost use Rattle.node_main.specs.Ends.{Attempted, Ended, FinishedAs, GivesBack, Holds, HoldsSame, IsBadAt, IsDue, IsHeld, IsLonger, IsScript, IsUntouched, Plays, PlaysFront, PlaysPartly, Stops, ToldAs, WritesPartly, end_of_reading, end_of_stop, end_text, media_names, status_of};
 
 use fs_model::items::Items;
 use fs_model::setup::Setup;
@@ -53,7 +54,7 @@ pub enum End {
     Memory,
     /// The script has more than 16 MiB.
     TooLong,
-    /// An input, or a store or tier, could not be opened.
+    /// An input, or an area, a store or a tier, could not be opened.
     OpenFault,
     /// An area failed at the opening.
     JournalFault,
@@ -130,7 +131,7 @@ fn two_names(alloc: Global, first: &str, second: &str) -> Result<Vec<String>, Al
     Ok(names)
 }
 
-/// The names of that example's stores and tiers.
+/// The names of that example's areas, stores and tiers.
 fn example_names(alloc: Global) -> Result<MediaNames, AllocError>
     ensures { IfOk result (λ names. name_lists names ≡ media_names) }
 {
@@ -138,12 +139,13 @@ fn example_names(alloc: Global) -> Result<MediaNames, AllocError>
     tiers.push(two_names(alloc, "m1", "d1")?)?;
     tiers.push(one_name(alloc, "m2")?)?;
     Ok(MediaNames {
+        journal: String::from_str(alloc, "j")?,
         stores: two_names(alloc, "s", "t")?,
         tiers,
     })
 }
 
-/// That example: its numbers, and the names of its stores and tiers.
+/// That example: its numbers, and the names of its areas, stores and tiers.
 fn example(alloc: Global) -> Result<(Setup, MediaNames), AllocError>
     ensures setup { IfOk result (λ found. found.0 ≡ two_workers) }
     ensures names { IfOk result (λ found. name_lists found.1 ≡ media_names) }
@@ -176,6 +178,7 @@ fn read_input<W: World>(alloc: Global, world: &mut W) -> Result<Vec<u8>, ReadSto
     ensures held { W.held world.new ≡ W.held world.old }
     ensures faults { W.faults world.new ≡ W.faults world.old }
     ensures shelf { W.shelf world.new ≡ W.shelf world.old }
+    ensures areas { W.areas world.new ≡ W.areas world.old }
     ensures lent { W.lent world.new ≡ W.lent world.old }
 {
     read_all(alloc, world.script(), LIMIT)
@@ -195,6 +198,7 @@ fn fetch<W: World>(alloc: Global, config: &str, script: &str, world: &mut W) -> 
     ensures output { W.output world.new ≡ W.output world.old }
     ensures held { W.held world.new ≡ W.held world.old }
     ensures shelf { W.shelf world.new ≡ W.shelf world.old }
+    ensures areas { W.areas world.new ≡ W.areas world.old }
     ensures lent { W.lent world.new ≡ W.lent world.old }
 {
     match world.choose(config, script) {
@@ -215,16 +219,16 @@ fn play_out<W: World>(
     alloc: Global,
     setup: &Setup,
     script: &Script,
-    media: Media<W::Store>,
+    media: Media<W::Area, W::Store>,
     world: &mut W,
-) -> (Result<(), Stop>, Media<W::Store>)
+) -> (Result<(), Stop>, Media<W::Area, W::Store>)
     requires setup { is_setup setup.now ≡ true }
     requires commands { list_all is_command script.now ≡ true }
     requires fit { MediaFit setup.now media }
     requires shape { HasShape media_names media }
-    ensures done { OnOk result.0 (Between W.Store.Objects W.Store.Reader.ObjectRead W.Store.Writer.ObjectWrite setup.now media result.1 (λ first last. Tells W.Store.Objects W.Store.Reader.ObjectRead W.Store.Writer.ObjectWrite script.now first last (W.Out.taken (W.output world.old)) (W.Out.taken (W.output world.new)))) }
-    ensures partly { result.0 ≡ Err Stop.WriteFault → (Between W.Store.Objects W.Store.Reader.ObjectRead W.Store.Writer.ObjectWrite setup.now media result.1 (λ first last. TellsPartly W.Store.Objects W.Store.Reader.ObjectRead W.Store.Writer.ObjectWrite script.now first last (W.Out.taken (W.output world.old)) (W.Out.taken (W.output world.new)))) }
-    ensures memory { result.0 ≡ Err Stop.Memory → ((result.1 ≡ media) × (W.output world.new ≡ W.output world.old)) ⊎ (Between W.Store.Objects W.Store.Reader.ObjectRead W.Store.Writer.ObjectWrite setup.now media result.1 (λ first last. TellsFront W.Store.Objects W.Store.Reader.ObjectRead W.Store.Writer.ObjectWrite script.now first last (W.Out.taken (W.output world.old)) (W.Out.taken (W.output world.new)))) }
+    ensures done { OnOk result.0 (Between W.Area.Disk W.Store.Objects W.Store.Reader.ObjectRead W.Store.Writer.ObjectWrite setup.now media result.1 (λ first last. Tells W.Area.Disk W.Store.Objects W.Store.Reader.ObjectRead W.Store.Writer.ObjectWrite script.now first last (W.Out.taken (W.output world.old)) (W.Out.taken (W.output world.new)))) }
+    ensures partly { result.0 ≡ Err Stop.WriteFault → (Between W.Area.Disk W.Store.Objects W.Store.Reader.ObjectRead W.Store.Writer.ObjectWrite setup.now media result.1 (λ first last. TellsPartly W.Area.Disk W.Store.Objects W.Store.Reader.ObjectRead W.Store.Writer.ObjectWrite script.now first last (W.Out.taken (W.output world.old)) (W.Out.taken (W.output world.new)))) }
+    ensures memory { result.0 ≡ Err Stop.Memory → ((result.1 ≡ media) × (W.output world.new ≡ W.output world.old)) ⊎ (Between W.Area.Disk W.Store.Objects W.Store.Reader.ObjectRead W.Store.Writer.ObjectWrite setup.now media result.1 (λ first last. TellsFront W.Area.Disk W.Store.Objects W.Store.Reader.ObjectRead W.Store.Writer.ObjectWrite script.now first last (W.Out.taken (W.output world.old)) (W.Out.taken (W.output world.new)))) }
     ensures write { result.0 ≡ Err Stop.WriteFault → Rose (W.Out.faults (W.output world.old)) (W.Out.faults (W.output world.new)) }
     ensures ends { IfErr result.0 (λ why. (why ≡ Stop.Memory) ⊎ (why ≡ Stop.WriteFault)) }
     ensures shape { HasShape media_names result.1 }
@@ -233,6 +237,7 @@ fn play_out<W: World>(
     ensures held { W.held world.new ≡ W.held world.old }
     ensures faults { W.faults world.new ≡ W.faults world.old }
     ensures shelf { W.shelf world.new ≡ W.shelf world.old }
+    ensures areas { W.areas world.new ≡ W.areas world.old }
     ensures lent { W.lent world.new ≡ W.lent world.old }
 {
     play(alloc, setup, script, media, world.out())
@@ -243,16 +248,16 @@ fn play_lent<W: World>(
     alloc: Global,
     setup: &Setup,
     script: &Script,
-    media: Media<W::Store>,
+    media: Media<W::Area, W::Store>,
     world: &mut W,
 ) -> End
     requires setup { setup.now ≡ two_workers }
     requires commands { list_all is_command script.now ≡ true }
     requires shape { HasShape media_names media }
     requires lent { W.lent world.old ≡ Some media_names }
-    ensures done { result ≡ End.Done → GivesBack W.Store.Objects W.Store.Reader.ObjectRead W.Store.Writer.ObjectWrite setup.now (W.shelf world.new) (λ first last. Tells W.Store.Objects W.Store.Reader.ObjectRead W.Store.Writer.ObjectWrite script.now first last (W.Out.taken (W.output world.old)) (W.Out.taken (W.output world.new))) media }
-    ensures partly { result ≡ End.WriteFault → GivesBack W.Store.Objects W.Store.Reader.ObjectRead W.Store.Writer.ObjectWrite setup.now (W.shelf world.new) (λ first last. TellsPartly W.Store.Objects W.Store.Reader.ObjectRead W.Store.Writer.ObjectWrite script.now first last (W.Out.taken (W.output world.old)) (W.Out.taken (W.output world.new))) media }
-    ensures memory { result ≡ End.Memory → ((W.Out.taken (W.output world.new) ≡ W.Out.taken (W.output world.old)) × IsHeld W.Store.Objects W.Store.Reader.ObjectRead W.Store.Writer.ObjectWrite (W.shelf world.new) media) ⊎ GivesBack W.Store.Objects W.Store.Reader.ObjectRead W.Store.Writer.ObjectWrite setup.now (W.shelf world.new) (λ first last. TellsFront W.Store.Objects W.Store.Reader.ObjectRead W.Store.Writer.ObjectWrite script.now first last (W.Out.taken (W.output world.old)) (W.Out.taken (W.output world.new))) media }
+    ensures done { result ≡ End.Done → GivesBack W.Area.Disk W.Store.Objects W.Store.Reader.ObjectRead W.Store.Writer.ObjectWrite setup.now (W.shelf world.new, W.areas world.new) (λ first last. Tells W.Area.Disk W.Store.Objects W.Store.Reader.ObjectRead W.Store.Writer.ObjectWrite script.now first last (W.Out.taken (W.output world.old)) (W.Out.taken (W.output world.new))) media }
+    ensures partly { result ≡ End.WriteFault → GivesBack W.Area.Disk W.Store.Objects W.Store.Reader.ObjectRead W.Store.Writer.ObjectWrite setup.now (W.shelf world.new, W.areas world.new) (λ first last. TellsPartly W.Area.Disk W.Store.Objects W.Store.Reader.ObjectRead W.Store.Writer.ObjectWrite script.now first last (W.Out.taken (W.output world.old)) (W.Out.taken (W.output world.new))) media }
+    ensures memory { result ≡ End.Memory → ((W.Out.taken (W.output world.new) ≡ W.Out.taken (W.output world.old)) × IsHeld W.Area.Disk W.Store.Objects W.Store.Reader.ObjectRead W.Store.Writer.ObjectWrite (W.shelf world.new, W.areas world.new) media) ⊎ GivesBack W.Area.Disk W.Store.Objects W.Store.Reader.ObjectRead W.Store.Writer.ObjectWrite setup.now (W.shelf world.new, W.areas world.new) (λ first last. TellsFront W.Area.Disk W.Store.Objects W.Store.Reader.ObjectRead W.Store.Writer.ObjectWrite script.now first last (W.Out.taken (W.output world.old)) (W.Out.taken (W.output world.new))) media }
     ensures write { result ≡ End.WriteFault → Rose (W.Out.faults (W.output world.old)) (W.Out.faults (W.output world.new)) }
     ensures ends { (result ≡ End.Done) ⊎ (result ≡ End.WriteFault) ⊎ (result ≡ End.Memory) }
     ensures later { W.Out.faults (W.output world.old) ≤ W.Out.faults (W.output world.new) }
@@ -260,6 +265,7 @@ fn play_lent<W: World>(
     ensures held { W.held world.new ≡ W.held world.old }
     ensures faults { W.faults world.new ≡ W.faults world.old }
     ensures others { KeepsBut (all_names media_names) (W.shelf world.old) (W.shelf world.new) }
+    ensures areas_others { KeepsAreasBut media_names.journal (W.areas world.old) (W.areas world.new) }
     ensures idle { W.lent world.new ≡ None }
 {
     let (played, back) = play_out(alloc, setup, script, media, world);
@@ -274,10 +280,10 @@ fn play_lent<W: World>(
 fn play_script<W: World>(alloc: Global, script: &Script, world: &mut W) -> End
     requires commands { list_all is_command script.now ≡ true }
     requires idle { W.lent world.old ≡ None }
-    ensures done { result ≡ End.Done → Plays W.Store.Objects W.Store.Reader.ObjectRead W.Store.Writer.ObjectWrite (W.shelf world.old) (W.shelf world.new) (λ commands. commands ≡ script.now) (W.Out.taken (W.output world.old)) (W.Out.taken (W.output world.new)) }
-    ensures partly { result ≡ End.WriteFault → PlaysPartly W.Store.Objects W.Store.Reader.ObjectRead W.Store.Writer.ObjectWrite (W.shelf world.old) (W.shelf world.new) (λ commands. commands ≡ script.now) (W.Out.taken (W.output world.old)) (W.Out.taken (W.output world.new)) }
-    ensures memory { result ≡ End.Memory → ((W.Out.taken (W.output world.new) ≡ W.Out.taken (W.output world.old)) × IsUntouched W.Store.Objects W.Store.Reader.ObjectRead W.Store.Writer.ObjectWrite (W.shelf world.old) (W.shelf world.new)) ⊎ PlaysFront W.Store.Objects W.Store.Reader.ObjectRead W.Store.Writer.ObjectWrite (W.shelf world.old) (W.shelf world.new) (λ commands. commands ≡ script.now) (W.Out.taken (W.output world.old)) (W.Out.taken (W.output world.new)) }
-    ensures open { result ≡ End.OpenFault → Rose (W.faults world.old) (W.faults world.new) × (W.output world.new ≡ W.output world.old) × (W.shelf world.new ≡ W.shelf world.old) }
+    ensures done { result ≡ End.Done → Plays W.Area.Disk W.Store.Objects W.Store.Reader.ObjectRead W.Store.Writer.ObjectWrite (W.shelf world.old, W.areas world.old) (W.shelf world.new, W.areas world.new) (λ commands. commands ≡ script.now) (W.Out.taken (W.output world.old)) (W.Out.taken (W.output world.new)) }
+    ensures partly { result ≡ End.WriteFault → PlaysPartly W.Area.Disk W.Store.Objects W.Store.Reader.ObjectRead W.Store.Writer.ObjectWrite (W.shelf world.old, W.areas world.old) (W.shelf world.new, W.areas world.new) (λ commands. commands ≡ script.now) (W.Out.taken (W.output world.old)) (W.Out.taken (W.output world.new)) }
+    ensures memory { result ≡ End.Memory → ((W.Out.taken (W.output world.new) ≡ W.Out.taken (W.output world.old)) × IsUntouched W.Area.Disk W.Store.Objects W.Store.Reader.ObjectRead W.Store.Writer.ObjectWrite (W.shelf world.old, W.areas world.old) (W.shelf world.new, W.areas world.new)) ⊎ PlaysFront W.Area.Disk W.Store.Objects W.Store.Reader.ObjectRead W.Store.Writer.ObjectWrite (W.shelf world.old, W.areas world.old) (W.shelf world.new, W.areas world.new) (λ commands. commands ≡ script.now) (W.Out.taken (W.output world.old)) (W.Out.taken (W.output world.new)) }
+    ensures open { result ≡ End.OpenFault → Rose (W.faults world.old) (W.faults world.new) × (W.output world.new ≡ W.output world.old) × HoldsSame (W.shelf world.old, W.areas world.old) (W.shelf world.new, W.areas world.new) }
     ensures write { result ≡ End.WriteFault → Rose (W.Out.faults (W.output world.old)) (W.Out.faults (W.output world.new)) }
     ensures ends { (result ≡ End.Done) ⊎ (result ≡ End.WriteFault) ⊎ (result ≡ End.OpenFault) ⊎ (result ≡ End.Memory) }
     ensures later { W.Out.faults (W.output world.old) ≤ W.Out.faults (W.output world.new) }
@@ -285,6 +291,7 @@ fn play_script<W: World>(alloc: Global, script: &Script, world: &mut W) -> End
     ensures held { W.held world.new ≡ W.held world.old }
     ensures faults { W.faults world.old ≤ W.faults world.new }
     ensures others { KeepsBut (all_names media_names) (W.shelf world.old) (W.shelf world.new) }
+    ensures areas_others { KeepsAreasBut media_names.journal (W.areas world.old) (W.areas world.new) }
     ensures idle { W.lent world.new ≡ None }
 {
     let Ok((setup, names)) = example(alloc) else {
@@ -300,11 +307,11 @@ fn play_script<W: World>(alloc: Global, script: &Script, world: &mut W) -> End
 /// Reads the script of a text, and plays it.
 fn play_text<W: World>(alloc: Global, text: &[u8], world: &mut W) -> End
     requires { W.lent world.old ≡ None }
-    ensures done { result ≡ End.Done → Plays W.Store.Objects W.Store.Reader.ObjectRead W.Store.Writer.ObjectWrite (W.shelf world.old) (W.shelf world.new) (λ commands. read_script text.now ≡ Ok commands) (W.Out.taken (W.output world.old)) (W.Out.taken (W.output world.new)) }
-    ensures partly { result ≡ End.WriteFault → PlaysPartly W.Store.Objects W.Store.Reader.ObjectRead W.Store.Writer.ObjectWrite (W.shelf world.old) (W.shelf world.new) (λ commands. read_script text.now ≡ Ok commands) (W.Out.taken (W.output world.old)) (W.Out.taken (W.output world.new)) }
-    ensures memory { result ≡ End.Memory → ((W.Out.taken (W.output world.new) ≡ W.Out.taken (W.output world.old)) × IsUntouched W.Store.Objects W.Store.Reader.ObjectRead W.Store.Writer.ObjectWrite (W.shelf world.old) (W.shelf world.new)) ⊎ PlaysFront W.Store.Objects W.Store.Reader.ObjectRead W.Store.Writer.ObjectWrite (W.shelf world.old) (W.shelf world.new) (λ commands. read_script text.now ≡ Ok commands) (W.Out.taken (W.output world.old)) (W.Out.taken (W.output world.new)) }
-    ensures open { result ≡ End.OpenFault → Rose (W.faults world.old) (W.faults world.new) × (W.output world.new ≡ W.output world.old) × (W.shelf world.new ≡ W.shelf world.old) }
-    ensures bad { (line : ℕ) → result ≡ End.BadScript line → (read_script text.now ≡ Err (BadLine line)) × (W.output world.new ≡ W.output world.old) × (W.shelf world.new ≡ W.shelf world.old) }
+    ensures done { result ≡ End.Done → Plays W.Area.Disk W.Store.Objects W.Store.Reader.ObjectRead W.Store.Writer.ObjectWrite (W.shelf world.old, W.areas world.old) (W.shelf world.new, W.areas world.new) (λ commands. read_script text.now ≡ Ok commands) (W.Out.taken (W.output world.old)) (W.Out.taken (W.output world.new)) }
+    ensures partly { result ≡ End.WriteFault → PlaysPartly W.Area.Disk W.Store.Objects W.Store.Reader.ObjectRead W.Store.Writer.ObjectWrite (W.shelf world.old, W.areas world.old) (W.shelf world.new, W.areas world.new) (λ commands. read_script text.now ≡ Ok commands) (W.Out.taken (W.output world.old)) (W.Out.taken (W.output world.new)) }
+    ensures memory { result ≡ End.Memory → ((W.Out.taken (W.output world.new) ≡ W.Out.taken (W.output world.old)) × IsUntouched W.Area.Disk W.Store.Objects W.Store.Reader.ObjectRead W.Store.Writer.ObjectWrite (W.shelf world.old, W.areas world.old) (W.shelf world.new, W.areas world.new)) ⊎ PlaysFront W.Area.Disk W.Store.Objects W.Store.Reader.ObjectRead W.Store.Writer.ObjectWrite (W.shelf world.old, W.areas world.old) (W.shelf world.new, W.areas world.new) (λ commands. read_script text.now ≡ Ok commands) (W.Out.taken (W.output world.old)) (W.Out.taken (W.output world.new)) }
+    ensures open { result ≡ End.OpenFault → Rose (W.faults world.old) (W.faults world.new) × (W.output world.new ≡ W.output world.old) × HoldsSame (W.shelf world.old, W.areas world.old) (W.shelf world.new, W.areas world.new) }
+    ensures bad { (line : ℕ) → result ≡ End.BadScript line → (read_script text.now ≡ Err (BadLine line)) × (W.output world.new ≡ W.output world.old) × HoldsSame (W.shelf world.old, W.areas world.old) (W.shelf world.new, W.areas world.new) }
     ensures write { result ≡ End.WriteFault → Rose (W.Out.faults (W.output world.old)) (W.Out.faults (W.output world.new)) }
     ensures due { (result ≡ end_of_reading (read_script text.now)) ⊎ (result ≡ End.Memory) ⊎ (result ≡ End.WriteFault) ⊎ (result ≡ End.OpenFault) }
     ensures later { W.Out.faults (W.output world.old) ≤ W.Out.faults (W.output world.new) }
@@ -312,6 +319,7 @@ fn play_text<W: World>(alloc: Global, text: &[u8], world: &mut W) -> End
     ensures held { W.held world.new ≡ W.held world.old }
     ensures faults { W.faults world.old ≤ W.faults world.new }
     ensures others { KeepsBut (all_names media_names) (W.shelf world.old) (W.shelf world.new) }
+    ensures areas_others { KeepsAreasBut media_names.journal (W.areas world.old) (W.areas world.new) }
     ensures idle { W.lent world.new ≡ None }
 {
     match read_script(alloc, text) {
@@ -324,7 +332,7 @@ fn play_text<W: World>(alloc: Global, text: &[u8], world: &mut W) -> End
 /// Does what the words ask for. The line of an end that isn't `Done` or `WriteFault` is not told yet.
 fn attempt<W: World>(alloc: Global, words: &[String], world: &mut W) -> End
     requires { W.lent world.old ≡ None }
-    ensures ended { Attempted W.Store.Objects W.Store.Reader.ObjectRead W.Store.Writer.ObjectWrite (W.shelf world.old) (W.shelf world.new) (W.held world.old) (map string_bytes words.now) (W.Out.taken (W.output world.old)) (W.Out.taken (W.output world.new)) (Rose (W.faults world.old) (W.faults world.new)) (Rose (W.In.faults (W.script_input world.old)) (W.In.faults (W.script_input world.new))) (Rose (W.Out.faults (W.output world.old)) (W.Out.faults (W.output world.new))) result }
+    ensures ended { Attempted W.Area.Disk W.Store.Objects W.Store.Reader.ObjectRead W.Store.Writer.ObjectWrite (W.shelf world.old, W.areas world.old) (W.shelf world.new, W.areas world.new) (W.held world.old) (map string_bytes words.now) (W.Out.taken (W.output world.old)) (W.Out.taken (W.output world.new)) (Rose (W.faults world.old) (W.faults world.new)) (Rose (W.In.faults (W.script_input world.old)) (W.In.faults (W.script_input world.new))) (Rose (W.Out.faults (W.output world.old)) (W.Out.faults (W.output world.new))) result }
     ensures words { play_words (map string_bytes words.now) ≡ None → result ≡ End.BadWords }
     ensures due { IfSome (W.held world.old) (λ held. IsDue held (map string_bytes words.now) (Rose (W.faults world.old) (W.faults world.new)) (Rose (W.In.faults (W.script_input world.old)) (W.In.faults (W.script_input world.new))) (Rose (W.Out.faults (W.output world.old)) (W.Out.faults (W.output world.new))) result) }
     ensures world_later { W.faults world.old ≤ W.faults world.new }
@@ -332,6 +340,7 @@ fn attempt<W: World>(alloc: Global, words: &[String], world: &mut W) -> End
     ensures sink_later { W.Out.faults (W.output world.old) ≤ W.Out.faults (W.output world.new) }
     ensures held { W.held world.new ≡ W.held world.old }
     ensures others { KeepsBut (all_names media_names) (W.shelf world.old) (W.shelf world.new) }
+    ensures areas_others { KeepsAreasBut media_names.journal (W.areas world.old) (W.areas world.new) }
     ensures idle { W.lent world.new ≡ None }
 {
     let Some((config, script)) = play_words(words) else {
@@ -412,6 +421,7 @@ fn give<W: World>(text: &[u8], world: &mut W) -> Result<(), Fault>
     ensures faults { W.faults world.new ≡ W.faults world.old }
     ensures later { W.Out.faults (W.output world.old) ≤ W.Out.faults (W.output world.new) }
     ensures shelf { W.shelf world.new ≡ W.shelf world.old }
+    ensures areas { W.areas world.new ≡ W.areas world.old }
     ensures lent { W.lent world.new ≡ W.lent world.old }
 {
     push_all(world.out(), text)
@@ -426,6 +436,7 @@ fn tell_end<W: World>(text: &[u8], end: End, world: &mut W) -> End
     ensures faults { W.faults world.new ≡ W.faults world.old }
     ensures later { W.Out.faults (W.output world.old) ≤ W.Out.faults (W.output world.new) }
     ensures shelf { W.shelf world.new ≡ W.shelf world.old }
+    ensures areas { W.areas world.new ≡ W.areas world.old }
     ensures lent { W.lent world.new ≡ W.lent world.old }
 {
     match give(text, world) {
@@ -443,6 +454,7 @@ fn finish<W: World>(alloc: Global, end: End, world: &mut W) -> End
     ensures faults { W.faults world.new ≡ W.faults world.old }
     ensures later { W.Out.faults (W.output world.old) ≤ W.Out.faults (W.output world.new) }
     ensures shelf { W.shelf world.new ≡ W.shelf world.old }
+    ensures areas { W.areas world.new ≡ W.areas world.old }
     ensures lent { W.lent world.new ≡ W.lent world.old }
 {
     match end_line(alloc, end) {
@@ -454,11 +466,12 @@ fn finish<W: World>(alloc: Global, end: End, world: &mut W) -> End
 /// Does what the words ask for, and tells the line of its end.
 fn run_to_end<W: World>(alloc: Global, words: &[String], world: &mut W) -> End
     requires { W.lent world.old ≡ None }
-    ensures ended { Ended W.Store.Objects W.Store.Reader.ObjectRead W.Store.Writer.ObjectWrite (W.shelf world.old) (W.shelf world.new) (W.held world.old) (map string_bytes words.now) (W.Out.taken (W.output world.old)) (W.Out.taken (W.output world.new)) (Rose (W.faults world.old) (W.faults world.new)) (Rose (W.In.faults (W.script_input world.old)) (W.In.faults (W.script_input world.new))) (Rose (W.Out.faults (W.output world.old)) (W.Out.faults (W.output world.new))) result }
+    ensures ended { Ended W.Area.Disk W.Store.Objects W.Store.Reader.ObjectRead W.Store.Writer.ObjectWrite (W.shelf world.old, W.areas world.old) (W.shelf world.new, W.areas world.new) (W.held world.old) (map string_bytes words.now) (W.Out.taken (W.output world.old)) (W.Out.taken (W.output world.new)) (Rose (W.faults world.old) (W.faults world.new)) (Rose (W.In.faults (W.script_input world.old)) (W.In.faults (W.script_input world.new))) (Rose (W.Out.faults (W.output world.old)) (W.Out.faults (W.output world.new))) result }
     ensures words { play_words (map string_bytes words.now) ≡ None → (result ≡ End.BadWords) ⊎ (result ≡ End.WriteFault) ⊎ (result ≡ End.Memory) }
     ensures due { IfSome (W.held world.old) (λ held. IsDue held (map string_bytes words.now) (Rose (W.faults world.old) (W.faults world.new)) (Rose (W.In.faults (W.script_input world.old)) (W.In.faults (W.script_input world.new))) (Rose (W.Out.faults (W.output world.old)) (W.Out.faults (W.output world.new))) result) }
     ensures held { W.held world.new ≡ W.held world.old }
     ensures others { KeepsBut (all_names media_names) (W.shelf world.old) (W.shelf world.new) }
+    ensures areas_others { KeepsAreasBut media_names.journal (W.areas world.old) (W.areas world.new) }
     ensures idle { W.lent world.new ≡ None }
 {
     match attempt(alloc, words, world) {
@@ -480,33 +493,33 @@ fn run_to_end<W: World>(alloc: Global, words: &[String], world: &mut W) -> End
 /// | 6 | none | only where the output failed; it then took a front of the lines, or a front of the line of another status, whose row holds |
 /// | 8 | `stopped 8 Memory` | want of memory; the lines of the first events may stand before it |
 /// | 9 | `stopped 9 TooLong` | exactly where the script has more than 16 MiB |
-/// | 10 | `stopped 10 OpenFault` | only where opening an input, or lending the stores and tiers, failed, or nothing is held under a name |
+/// | 10 | `stopped 10 OpenFault` | only where opening an input, or lending the areas, stores and tiers, failed, or nothing is held under a name |
 /// | 3, 7, 11 | `stopped 3 BadConfig store`, `stopped 7 Damaged AREA PLACE`, `stopped 11 JournalFault` | never yet |
 ///
 /// Each "exactly where" yields to a fault or want of memory that comes before. The inputs stay as the world holds
-/// them under their names. The stores and tiers are lent once the script is read, and given back once, as the play
+/// them under their names. The areas, stores and tiers are lent once the script is read, and given back once, as the play
 /// left them; a caller shows that none is lent.
 pub fn run<W: World>(alloc: Global, words: &[String], world: &mut W) -> u8
     requires { W.lent world.old ≡ None }
 
     // The script that the world holds under its name was played, and its lines are all that was written.
-    ensures done { result ≡ 0 → IsSomeAnd (play_words (map string_bytes words.now)) (λ names. Plays W.Store.Objects W.Store.Reader.ObjectRead W.Store.Writer.ObjectWrite (W.shelf world.old) (W.shelf world.new) (IsScript (W.held world.old) names.1) (W.Out.taken (W.output world.old)) (W.Out.taken (W.output world.new))) }
+    ensures done { result ≡ 0 → IsSomeAnd (play_words (map string_bytes words.now)) (λ names. Plays W.Area.Disk W.Store.Objects W.Store.Reader.ObjectRead W.Store.Writer.ObjectWrite (W.shelf world.old, W.areas world.old) (W.shelf world.new, W.areas world.new) (IsScript (W.held world.old) names.1) (W.Out.taken (W.output world.old)) (W.Out.taken (W.output world.new))) }
 
     // Words of no form.
-    ensures words { result ≡ 2 → (play_words (map string_bytes words.now) ≡ None) × Takes (W.Out.taken (W.output world.old)) (W.Out.taken (W.output world.new)) (end_text End.BadWords) × (W.shelf world.new ≡ W.shelf world.old) }
+    ensures words { result ≡ 2 → (play_words (map string_bytes words.now) ≡ None) × Takes (W.Out.taken (W.output world.old)) (W.Out.taken (W.output world.new)) (end_text End.BadWords) × HoldsSame (W.shelf world.old, W.areas world.old) (W.shelf world.new, W.areas world.new) }
     ensures words_too { play_words (map string_bytes words.now) ≡ None → (result ≡ 2) ⊎ (result ≡ 6) ⊎ (result ≡ 8) }
 
     // The first line that is none of a script.
-    ensures bad { result ≡ 4 → (line : ℕ) × IsSomeAnd (play_words (map string_bytes words.now)) (λ names. IsBadAt (W.held world.old) names.1 line) × Takes (W.Out.taken (W.output world.old)) (W.Out.taken (W.output world.new)) (end_text (End.BadScript line)) × (W.shelf world.new ≡ W.shelf world.old) }
+    ensures bad { result ≡ 4 → (line : ℕ) × IsSomeAnd (play_words (map string_bytes words.now)) (λ names. IsBadAt (W.held world.old) names.1 line) × Takes (W.Out.taken (W.output world.old)) (W.Out.taken (W.output world.new)) (end_text (End.BadScript line)) × HoldsSame (W.shelf world.old, W.areas world.old) (W.shelf world.new, W.areas world.new) }
 
     // A fault comes only where its count rose, or where a name isn't held.
-    ensures read { result ≡ 5 → Rose (W.In.faults (W.script_input world.old)) (W.In.faults (W.script_input world.new)) × Takes (W.Out.taken (W.output world.old)) (W.Out.taken (W.output world.new)) (end_text End.ReadFault) × (W.shelf world.new ≡ W.shelf world.old) }
+    ensures read { result ≡ 5 → Rose (W.In.faults (W.script_input world.old)) (W.In.faults (W.script_input world.new)) × Takes (W.Out.taken (W.output world.old)) (W.Out.taken (W.output world.new)) (end_text End.ReadFault) × HoldsSame (W.shelf world.old, W.areas world.old) (W.shelf world.new, W.areas world.new) }
     // The sink failed, and took a front of the played lines, or a front of the line of an end that has its cause.
-    ensures write { result ≡ 6 → Rose (W.Out.faults (W.output world.old)) (W.Out.faults (W.output world.new)) × WritesPartly W.Store.Objects W.Store.Reader.ObjectRead W.Store.Writer.ObjectWrite (W.shelf world.old) (W.shelf world.new) (W.held world.old) (map string_bytes words.now) (W.Out.taken (W.output world.old)) (W.Out.taken (W.output world.new)) (Rose (W.faults world.old) (W.faults world.new)) (Rose (W.In.faults (W.script_input world.old)) (W.In.faults (W.script_input world.new))) }
-    ensures open { result ≡ 10 → IsSomeAnd (play_words (map string_bytes words.now)) (λ names. Rose (W.faults world.old) (W.faults world.new) ⊎ IsTrue (is_missed (W.held world.old) names.0 names.1)) × Takes (W.Out.taken (W.output world.old)) (W.Out.taken (W.output world.new)) (end_text End.OpenFault) × (W.shelf world.new ≡ W.shelf world.old) }
+    ensures write { result ≡ 6 → Rose (W.Out.faults (W.output world.old)) (W.Out.faults (W.output world.new)) × WritesPartly W.Area.Disk W.Store.Objects W.Store.Reader.ObjectRead W.Store.Writer.ObjectWrite (W.shelf world.old, W.areas world.old) (W.shelf world.new, W.areas world.new) (W.held world.old) (map string_bytes words.now) (W.Out.taken (W.output world.old)) (W.Out.taken (W.output world.new)) (Rose (W.faults world.old) (W.faults world.new)) (Rose (W.In.faults (W.script_input world.old)) (W.In.faults (W.script_input world.new))) }
+    ensures open { result ≡ 10 → IsSomeAnd (play_words (map string_bytes words.now)) (λ names. Rose (W.faults world.old) (W.faults world.new) ⊎ IsTrue (is_missed (W.held world.old) names.0 names.1)) × Takes (W.Out.taken (W.output world.old)) (W.Out.taken (W.output world.new)) (end_text End.OpenFault) × HoldsSame (W.shelf world.old, W.areas world.old) (W.shelf world.new, W.areas world.new) }
 
-    ensures memory { result ≡ 8 → Stops W.Store.Objects W.Store.Reader.ObjectRead W.Store.Writer.ObjectWrite (W.shelf world.old) (W.shelf world.new) (W.held world.old) (map string_bytes words.now) End.Memory (W.Out.taken (W.output world.old)) (W.Out.taken (W.output world.new)) }
-    ensures long { result ≡ 9 → IsSomeAnd (play_words (map string_bytes words.now)) (λ names. IsLonger (W.held world.old) names.1 LIMIT) × Takes (W.Out.taken (W.output world.old)) (W.Out.taken (W.output world.new)) (end_text End.TooLong) × (W.shelf world.new ≡ W.shelf world.old) }
+    ensures memory { result ≡ 8 → Stops W.Area.Disk W.Store.Objects W.Store.Reader.ObjectRead W.Store.Writer.ObjectWrite (W.shelf world.old, W.areas world.old) (W.shelf world.new, W.areas world.new) (W.held world.old) (map string_bytes words.now) End.Memory (W.Out.taken (W.output world.old)) (W.Out.taken (W.output world.new)) }
+    ensures long { result ≡ 9 → IsSomeAnd (play_words (map string_bytes words.now)) (λ names. IsLonger (W.held world.old) names.1 LIMIT) × Takes (W.Out.taken (W.output world.old)) (W.Out.taken (W.output world.new)) (end_text End.TooLong) × HoldsSame (W.shelf world.old, W.areas world.old) (W.shelf world.new, W.areas world.new) }
 
     // No opening finds a bad setup or a damaged area yet, and no journal fails.
     ensures never { (result ≡ 3) ⊎ (result ≡ 7) ⊎ (result ≡ 11) → ⊥ }
@@ -518,6 +531,7 @@ pub fn run<W: World>(alloc: Global, words: &[String], world: &mut W) -> u8
 
     // What the world holds under other names than the example's stays, and nothing is lent.
     ensures others { KeepsBut (all_names media_names) (W.shelf world.old) (W.shelf world.new) }
+    ensures areas_others { KeepsAreasBut media_names.journal (W.areas world.old) (W.areas world.new) }
     ensures idle { W.lent world.new ≡ None }
 {
     status_of(run_to_end(alloc, words, world))

@@ -1,7 +1,7 @@
 ghost use Rattle.std.specs.Prelude.{◌≡◌, IfOk, None};
 
 use crate::run::run;
-use outside_mem::{ByNumber, Failing, MemObjects, MemWorld};
+use outside_mem::{ByNumber, Failing, MemDisk, MemObjects, MemWorld};
 use std::alloc::Global;
 use std::test::Fail;
 
@@ -298,6 +298,45 @@ fn a_reader_that_is_not_ready_goes_on(rt: HostRuntime) -> Result<(), Fail> {
     let (status, written) = played_in(alloc, world)?;
     assert_eq!(rt; status, 0);
     assert_eq!(rt; written.as_slice(), NOT_READY.as_bytes());
+    Ok(())
+}
+
+/// An area in memory that holds this text.
+fn area(alloc: Global, text: &str) -> Result<MemDisk, Fail> {
+    Ok(MemDisk::new(Vec::from_slice(alloc, text.as_bytes())?))
+}
+
+/// What the world holds in the areas of this journal.
+fn areas_in<'a>(world: &'a MemWorld, journal: &str) -> Result<(&'a [u8], &'a [u8]), Fail> {
+    let (first, second) = world.shelf.find_areas(journal).ok_or("no areas")?;
+    Ok((first.bytes(), second.bytes()))
+}
+
+#[test]
+fn the_areas_come_back(rt: HostRuntime) -> Result<(), Fail> {
+    let alloc = rt.alloc();
+    let mut world = world_of(alloc, b"1 mkdir /a\n")?;
+    world.hold_areas("j", area(alloc, "first")?, area(alloc, "second")?)?;
+    world.hold_areas("k", area(alloc, "third")?, area(alloc, "")?)?;
+    let words = words_of(alloc, "play c s")?;
+    assert_eq!(rt; run(alloc, &words, &mut world), 0);
+    let (first, second) = areas_in(&world, "j")?;
+    assert_eq!(rt; first, b"first".as_slice());
+    assert_eq!(rt; second, b"second".as_slice());
+    let (third, _) = areas_in(&world, "k")?;
+    assert_eq!(rt; third, b"third".as_slice());
+    Ok(())
+}
+
+#[test]
+fn areas_that_are_not_there_are_made(rt: HostRuntime) -> Result<(), Fail> {
+    let alloc = rt.alloc();
+    let mut world = world_of(alloc, b"1 mkdir /a\n")?;
+    let words = words_of(alloc, "play c s")?;
+    assert_eq!(rt; run(alloc, &words, &mut world), 0);
+    let (first, second) = areas_in(&world, "j")?;
+    assert!(rt; first.is_empty());
+    assert!(rt; second.is_empty());
     Ok(())
 }
 

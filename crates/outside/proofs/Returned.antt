@@ -1,8 +1,12 @@
 -- Media that are lent and given back as they are.
-use Rattle.std.proofs.Common.{◌≡◌, ℕ, true, List, [], ◌∷◌, inl, inr, sym, ◌∙◌, subst}
+use Rattle.std.proofs.Common.{◌≡◌, ℕ, Bool, true, List, [], ◌∷◌, inl, inr, refl, sym, ◌∙◌, subst}
 use Rattle.std.specs.Prelude.{None, Option, Some}
 use Rattle.std.specs.List.{AllZip}
+use Rattle.std.specs.Str.{bytes_eq}
+use Rattle.outside.specs.AreaShelf.{AreFresh, AreaShelf, HoldsAreas, KeepsAreas, KeepsAreasBut}
 use Rattle.outside.specs.Contents.{Contents, IsSame}
+use Rattle.outside.specs.Fuse.{Fusing}
+use Rattle.outside.specs.History.{History}
 use Rattle.outside.specs.Shelf.{EachNamed, KeepsBut, NameLists, Shelf, TellsHeld, all_names, is_among, tier_names, under}
 use Rattle.outside.specs.declared.media.Media.{Media}
 use Rattle.outside.proofs.NamesApart.{among-append, either_true, name_same}
@@ -37,9 +41,25 @@ module _ {S : Type 0} (told : S → Option Contents) (old new : Option Shelf) wh
   tiers_tell items (worker ∷ workers) [] name h k e = absurd h
   tiers_tell items (worker ∷ workers) (own ∷ tiers) name h k e = elim (either_true (is_among worker name) (is_among (tier_names workers) name) (sym (among-append worker (tier_names workers) name) ∙ e)) [ inl p ↦ zip_tells worker (items own) name h.0 k.0 p | inr p ↦ tiers_tell items workers tiers name h.1 k.1 p ]
 
-  each_tells : (names : NameLists) (media : Media S) (name : List ℕ) → EachNamed (TellsHeld told old) names media → EachNamed (TellsHeld told new) names media → is_among (all_names names) name ≡ true → IsSame (under old name) (under new name)
+  each_tells : {D : Type 0} (names : NameLists) (media : Media D S) (name : List ℕ) → EachNamed (TellsHeld told old) names media → EachNamed (TellsHeld told new) names media → is_among (all_names names) name ≡ true → IsSame (under old name) (under new name)
   each_tells names media name h k e = elim (either_true (is_among names.stores name) (is_among (tier_names names.tiers) name) (sym (among-append names.stores (tier_names names.tiers) name) ∙ e)) [ inl p ↦ zip_tells names.stores media.stores.items name h.stores k.stores p | inr p ↦ tiers_tell (λ own. own.items) names.tiers media.tiers.items name h.tiers k.tiers p ]
 
 -- a world that lends media and gets them back as they are holds what it held
-pub same_returned : {S : Type 0} (told : S → Option Contents) (old mid new : Option Shelf) (names : NameLists) (media : Media S) → EachNamed (TellsHeld told old) names media → EachNamed (TellsHeld told new) names media → KeepsBut (all_names names) old mid → KeepsBut (all_names names) mid new → KeepsBut [] old new
+pub same_returned : {D S : Type 0} (told : S → Option Contents) (old mid new : Option Shelf) (names : NameLists) (media : Media D S) → EachNamed (TellsHeld told old) names media → EachNamed (TellsHeld told new) names media → KeepsBut (all_names names) old mid → KeepsBut (all_names names) mid new → KeepsBut [] old new
 same_returned told old mid new names media lent back first next = λ name _. elim (true_or_false (is_among (all_names names) name)) [ inl e ↦ each_tells told old new names media name lent back e | inr e ↦ same_then (under old name) (under mid name) (under new name) (first name e) (next name e) ]
+
+-- and so it is with areas
+pub areas_returned : {D : Type 0} (tells : D → Bool) (history : D → History) (old mid new : Option AreaShelf) (name : List ℕ) (pair : Fusing D × Fusing D) → AreFresh tells old pair → HoldsAreas tells history old name pair → HoldsAreas tells history new name pair → KeepsAreasBut name old mid → KeepsAreasBut name mid new → KeepsAreas old new
+areas_returned tells history None mid new name pair fresh lent back first next = record { tells = next.tells ∙ first.tells; each = tt }
+areas_returned tells history (Some before) None new name pair fresh lent back first next = let e = first.tells in cc
+areas_returned tells history (Some before) (Some between) None name pair fresh lent back first next = let e = next.tells in cc
+areas_returned tells history (Some before) (Some between) (Some after) name pair fresh lent back first next = record { tells = refl; each = λ other. elim (true_or_false (bytes_eq name other)) [ inl e ↦ subst (λ other. after other ≡ before other) (name_same name other e) same | inr e ↦ next.others other e ∙ first.others other e ] }
+  where
+    front : (after name).0 ≡ (before name).0
+    front = back.first fresh.tell.0 ∙ sym (lent.first fresh.tell.0)
+
+    behind : (after name).1 ≡ (before name).1
+    behind = back.second fresh.tell.1 ∙ sym (lent.second fresh.tell.1)
+
+    same : after name ≡ before name
+    same = λ i. (front i, behind i)

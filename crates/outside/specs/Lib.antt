@@ -8,3 +8,4 @@ pub mod Polls
 pub mod Shelf
 pub mod History
 pub mod Fuse
+pub mod AreaShelf

@@ -11,11 +11,12 @@ use Rattle.outside.specs.declared.media.MediaNames.{MediaNames}
 
 -- the names of media, each as its bytes
 pub record NameLists : Type 0 where
+  pub journal : List ℕ
   pub stores : List (List ℕ)
   pub tiers : List (List (List ℕ))
 
 abbrev pub name_lists : MediaNames → NameLists
-name_lists names = record { stores = map string_bytes names.stores.items; tiers = map (λ worker. map string_bytes worker.items) names.tiers.items }
+name_lists names = record { journal = string_bytes names.journal; stores = map string_bytes names.stores.items; tiers = map (λ worker. map string_bytes worker.items) names.tiers.items }
 
 -- the names of all workers' tiers
 abbrev pub tier_names : List (List (List ℕ)) → List (List ℕ)
@@ -38,12 +39,12 @@ are_distinct (name ∷ names) = not (is_among names name) && are_distinct names
 -- ---- media under names
 
 -- there is one store for each name of one, and for each worker one tier for each of its names
-pub record HasShape {S : Type 0} (names : NameLists) (media : Media S) : Type 0 where
+pub record HasShape {D S : Type 0} (names : NameLists) (media : Media D S) : Type 0 where
   pub stores : length media.stores.items ≡ length names.stores
   pub tiers : map (λ tiers. length tiers.items) media.tiers.items ≡ map length names.tiers
 
 -- R holds of each name and the store or tier at its place
-pub record EachNamed {S : Type 0} (R : List ℕ → S → Type 0) (names : NameLists) (media : Media S) : Type 0 where
+pub record EachNamed {D S : Type 0} (R : List ℕ → S → Type 0) (names : NameLists) (media : Media D S) : Type 0 where
   pub stores : AllZip R names.stores media.stores.items
   pub tiers : AllZip (λ worker tiers. AllZip R worker tiers.items) names.tiers media.tiers.items
 

@@ -17,19 +17,19 @@ use std::marker::Model;
 /// the disk's own faults. `reserve` is no call of the disk, and is neither counted nor stopped. This
 /// project's own.
 #[derive(Debug, Drop)]
-pub struct Fused<D: Disk> {
+pub struct Fused<D> {
     disk: D,
     fuse: Option<u64>,
     blown: u64,
 }
 
-impl<D: Disk> Model for Fused<D> {
+impl<D> Model for Fused<D> {
     ghost Value = { Fusing D };
 
     ghost view = { λ f. record { disk = f.disk; fuse = f.fuse; blown = f.blown } };
 }
 
-impl<D: Disk> Fused<D> {
+impl<D> Fused<D> {
     /// The disk with no fuse.
     pub fn new(disk: D) -> Fused<D>
         ensures { result ≡ record { disk = disk; fuse = None; blown = 0 } }

@@ -1,14 +1,17 @@
-//! The stores and tiers that a cluster works over.
+//! The areas, stores and tiers that a cluster works over.
 
 ghost use Rattle.std.specs.Prelude.{◌≡◌, ◌++◌, map};
 ghost use Rattle.std.specs.String.{string_bytes};
 ghost use Rattle.outside.specs.Shelf.{all_names, are_distinct, is_among, name_lists, tier_names};
 
+use crate::fused::Fused;
 use std::alloc::AllocError;
 
 /// The names of media in a world.
 #[derive(Debug, Drop)]
 pub struct MediaNames {
+    /// The name of the journal's areas.
+    pub journal: String,
     /// The name of each under-store, from number 1 on.
     pub stores: Vec<String>,
     /// The names of each worker's tiers, from worker 1 and tier 0 on.
@@ -68,15 +71,18 @@ impl Clone for MediaNames {
 
     fn clone(&self) -> Result<MediaNames, AllocError> {
         Ok(MediaNames {
+            journal: self.journal.clone()?,
             stores: self.stores.clone()?,
             tiers: self.tiers.clone()?,
         })
     }
 }
 
-/// What a cluster works over: under-stores and the tiers of workers.
+/// What a cluster works over: the areas of its journal, under-stores, and the tiers of workers.
 #[derive(Debug, Drop)]
-pub struct Media<O> {
+pub struct Media<D, O> {
+    /// The journal's areas 0 and 1.
+    pub areas: (Fused<D>, Fused<D>),
     /// The under-stores, from number 1 on.
     pub stores: Vec<O>,
     /// The tiers of each worker, from worker 1 and tier 0 on.

@@ -23,7 +23,8 @@ fn texts_of(alloc: Global, texts: &[&str]) -> Result<Vec<String>, AllocError> {
     Ok(names)
 }
 
-/// These names of stores, and of the tiers of two workers.
+/// A journal's name that stores and tiers may have too, and these names of stores, and of the tiers of
+/// two workers.
 fn names_of(
     alloc: Global,
     stores: &[&str],
@@ -34,6 +35,7 @@ fn names_of(
     tiers.push(texts_of(alloc, first)?)?;
     tiers.push(texts_of(alloc, second)?)?;
     Ok(MediaNames {
+        journal: String::from_str(alloc, "a")?,
         stores: texts_of(alloc, stores)?,
         tiers,
     })

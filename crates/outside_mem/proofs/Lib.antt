@@ -2,10 +2,12 @@ pub mod Fronts
 pub mod Stored
 pub mod Firsts
 pub mod Fates
+pub mod NamedItems
 pub mod NamedStores
 pub mod NamedMedia
 pub mod Places
 pub mod Lending
+pub mod LentAreas
 pub mod NewMedia
 pub mod DiskLogs
 pub mod Moments

@@ -5,8 +5,9 @@ use Rattle.std.proofs.lemmas.List.{length-map}
 use Rattle.std.specs.List.{AllZip}
 use Rattle.outside.specs.Shelf.{EachNamed, HasShape, NameLists, all_names, are_distinct}
 use Rattle.outside.specs.declared.media.Media.{Media}
-use Rattle.outside_mem.specs.Named.{HasPlaces, IsSameBut, IsUnder, store_under, taken, taken_tiers, with_stores, with_tiers}
-use Rattle.outside_mem.specs.declared.named.NamedStore.{NamedStore}
+use Rattle.outside_mem.specs.Named.{HasPlaces, IsSameBut, IsUnder, item_under, taken, taken_tiers, with_stores, with_tiers}
+use Rattle.outside_mem.specs.declared.named.Named.{Named}
+use Rattle.outside_mem.specs.declared.disk.MemDisk.{MemDisk}
 use Rattle.outside_mem.specs.declared.store.MemObjects.{MemObjects}
 use Rattle.outside_mem.proofs.NamedStores.{Lengths, given_tiers_under, others_under_tiers, some_with_tiers, taken_tiers_under}
 
@@ -22,11 +23,11 @@ lengths_of items [] = refl
 lengths_of items (v ∷ vs) = ap (λ rest. length (items v) ∷ rest) (lengths_of items vs)
 
 -- the stores and the tiers of each worker as one list, of media as long as their names
-lengths_joined : (names : NameLists) (media : Media MemObjects) → HasShape names media → Lengths (media.stores.items ∷ map (λ tiers. tiers.items) media.tiers.items) (names.stores ∷ names.tiers)
+lengths_joined : (names : NameLists) (media : Media MemDisk MemObjects) → HasShape names media → Lengths (media.stores.items ∷ map (λ tiers. tiers.items) media.tiers.items) (names.stores ∷ names.tiers)
 lengths_joined names media shape = λ i. shape.stores i ∷ (lengths_of (λ tiers. tiers.items) media.tiers.items ∙ shape.tiers) i
 
 -- what the media took the places of was under the names
-pub media_taken : (names : NameLists) (old new : Media MemObjects) (stores : List NamedStore) → HasShape names old → are_distinct (all_names names) ≡ true → HasPlaces stores (all_names names) → new.stores.items ≡ taken names.stores old.stores.items stores → map (λ tiers. tiers.items) new.tiers.items ≡ taken_tiers names.tiers (map (λ tiers. tiers.items) old.tiers.items) (with_stores names.stores old.stores.items stores) → EachNamed (IsUnder stores) names new
+pub media_taken : (names : NameLists) (old new : Media MemDisk MemObjects) (stores : List (Named MemObjects)) → HasShape names old → are_distinct (all_names names) ≡ true → HasPlaces stores (all_names names) → new.stores.items ≡ taken names.stores old.stores.items stores → map (λ tiers. tiers.items) new.tiers.items ≡ taken_tiers names.tiers (map (λ tiers. tiers.items) old.tiers.items) (with_stores names.stores old.stores.items stores) → EachNamed (IsUnder stores) names new
 media_taken names old new stores shape d has e f =
     let all = taken_tiers_under (names.stores ∷ names.tiers) (old.stores.items ∷ map (λ tiers. tiers.items) old.tiers.items) stores (lengths_joined names old shape) d has in
     record {
@@ -35,7 +36,7 @@ media_taken names old new stores shape d has e f =
     }
 
 -- the media are under the names afterwards
-pub media_given : (names : NameLists) (media : Media MemObjects) (stores new : List NamedStore) → HasShape names media → are_distinct (all_names names) ≡ true → HasPlaces stores (all_names names) → new ≡ with_tiers names.tiers (map (λ tiers. tiers.items) media.tiers.items) (with_stores names.stores media.stores.items stores) → EachNamed (IsUnder new) names media
+pub media_given : (names : NameLists) (media : Media MemDisk MemObjects) (stores new : List (Named MemObjects)) → HasShape names media → are_distinct (all_names names) ≡ true → HasPlaces stores (all_names names) → new ≡ with_tiers names.tiers (map (λ tiers. tiers.items) media.tiers.items) (with_stores names.stores media.stores.items stores) → EachNamed (IsUnder new) names media
 media_given names media stores new shape d has e =
     let all = given_tiers_under (names.stores ∷ names.tiers) (media.stores.items ∷ map (λ tiers. tiers.items) media.tiers.items) stores (lengths_joined names media shape) d has in
     let under = subst (λ stores. AllZip (AllZip (IsUnder stores)) (names.stores ∷ names.tiers) (media.stores.items ∷ map (λ tiers. tiers.items) media.tiers.items)) (sym e) all in
@@ -44,11 +45,11 @@ media_given names media stores new shape d has e =
       tiers = zip_of (AllZip (IsUnder new)) (λ tiers. tiers.items) names.tiers media.tiers.items under.1;
     }
 
-pub media_others : (names : NameLists) (media : Media MemObjects) (stores new : List NamedStore) → new ≡ with_tiers names.tiers (map (λ tiers. tiers.items) media.tiers.items) (with_stores names.stores media.stores.items stores) → IsSameBut (all_names names) stores new
-media_others names media stores new e = λ name h. ap (λ stores. store_under stores name) e ∙ others_under_tiers (names.stores ∷ names.tiers) (media.stores.items ∷ map (λ tiers. tiers.items) media.tiers.items) stores name h
+pub media_others : (names : NameLists) (media : Media MemDisk MemObjects) (stores new : List (Named MemObjects)) → new ≡ with_tiers names.tiers (map (λ tiers. tiers.items) media.tiers.items) (with_stores names.stores media.stores.items stores) → IsSameBut (all_names names) stores new
+media_others names media stores new e = λ name h. ap (λ stores. item_under stores name) e ∙ others_under_tiers (names.stores ∷ names.tiers) (media.stores.items ∷ map (λ tiers. tiers.items) media.tiers.items) stores name h
 
-pub media_places : (names : NameLists) (media : Media MemObjects) (stores new : List NamedStore) (of : List (List ℕ)) → HasPlaces stores of → new ≡ with_tiers names.tiers (map (λ tiers. tiers.items) media.tiers.items) (with_stores names.stores media.stores.items stores) → HasPlaces new of
-media_places names media stores new of has e = λ name h. ap (λ stores. is_some (store_under stores name)) e ∙ some_with_tiers (names.stores ∷ names.tiers) (media.stores.items ∷ map (λ tiers. tiers.items) media.tiers.items) stores name ∙ has name h
+pub media_places : (names : NameLists) (media : Media MemDisk MemObjects) (stores new : List (Named MemObjects)) (of : List (List ℕ)) → HasPlaces stores of → new ≡ with_tiers names.tiers (map (λ tiers. tiers.items) media.tiers.items) (with_stores names.stores media.stores.items stores) → HasPlaces new of
+media_places names media stores new of has e = λ name h. ap (λ stores. is_some (item_under stores name)) e ∙ some_with_tiers (names.stores ∷ names.tiers) (media.stores.items ∷ map (λ tiers. tiers.items) media.tiers.items) stores name ∙ has name h
 
 pub named_lengths : {A B W : Type 0} (text : A → B) (items : W → List A) (workers : List W) → map length (map (λ worker. map text (items worker)) workers) ≡ map (λ worker. length (items worker)) workers
 named_lengths text items [] = refl

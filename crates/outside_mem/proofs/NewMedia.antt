@@ -6,6 +6,7 @@ use Rattle.std.proofs.lemmas.List.Elements.{All-push}
 use Rattle.outside.specs.Shelf.{EachNamed, HasShape, NameLists}
 use Rattle.outside.specs.declared.media.Media.{Media}
 use Rattle.outside_mem.specs.Named.{IsNew}
+use Rattle.outside_mem.specs.declared.disk.MemDisk.{MemDisk}
 use Rattle.outside_mem.specs.declared.store.MemObjects.{MemObjects}
 
 -- one more list of the length of the next
@@ -34,7 +35,7 @@ zip_new_tiers items (worker ∷ workers) (own ∷ tiers) e new =
     let rest : map (λ own. length (items own)) tiers ≡ map length workers = cc in
     (zip_new worker (items own) first (new 0 own (omega arith)), zip_new_tiers items workers tiers rest (λ k d l. new (suc k) d (omega (arith, l))))
 
-pub each_new : (names : NameLists) (media : Media MemObjects) → HasShape names media → All IsNew media.stores.items → All (λ own. All IsNew own.items) media.tiers.items → EachNamed (λ name. IsNew) names media
+pub each_new : (names : NameLists) (media : Media MemDisk MemObjects) → HasShape names media → All IsNew media.stores.items → All (λ own. All IsNew own.items) media.tiers.items → EachNamed (λ name. IsNew) names media
 each_new names media shape stores tiers = record {
   stores = zip_new names.stores media.stores.items shape.stores stores;
   tiers = zip_new_tiers (λ own. own.items) names.tiers media.tiers.items shape.tiers tiers;
@@ -52,7 +53,7 @@ zip_lens R items [] (v ∷ vs) z = absurd z
 zip_lens R items (x ∷ xs) [] z = absurd z
 zip_lens R items (x ∷ xs) (v ∷ vs) z = λ i. zip_len R x (items v) z.0 i ∷ zip_lens R items xs vs z.1 i
 
-pub shape_of : {S : Type 0} (R : List ℕ → S → Type 0) (names : NameLists) (media : Media S) → EachNamed R names media → HasShape names media
+pub shape_of : {D S : Type 0} (R : List ℕ → S → Type 0) (names : NameLists) (media : Media D S) → EachNamed R names media → HasShape names media
 shape_of R names media each = record {
   stores = zip_len R names.stores media.stores.items each.stores;
   tiers = zip_lens R (λ own. own.items) names.tiers media.tiers.items each.tiers;

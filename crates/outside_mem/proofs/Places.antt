@@ -1,82 +1,44 @@
 -- Places that are made for names.
-use Rattle.std.proofs.Common.{◌≡◌, ◌<◌, ℕ, zero, suc, length, get_or, map, arith, true, false, Bool, List, [], ◌∷◌, ◌++◌, ◌⊎◌, inl, inr, refl, sym, ap, ◌∙◌, subst}
-use Rattle.std.specs.Prelude.{IsSome, IsSomeAnd, is_some, option_map, Some, None, Option, if◌then◌else◌}
+use Rattle.std.proofs.Common.{◌≡◌, ◌<◌, ℕ, zero, suc, length, get_or, map, arith, true, false, List, [], ◌∷◌, ◌++◌, ◌⊎◌, inl, inr, refl, sym, ap, ◌∙◌, subst}
+use Rattle.std.specs.Prelude.{IsSome, IsSomeAnd, is_some, option_map, Some, None, Option}
 use Rattle.std.specs.Str.{bytes_eq}
-use Rattle.std.specs.String.{string_bytes}
 use Rattle.outside.specs.Shelf.{is_among, tier_names}
-use Rattle.outside.proofs.NamesApart.{among_back, among_front, among-append, either_true, first_among, later_among, name_same, name_self, name_turned}
-use Rattle.outside_mem.specs.Named.{GetsPlaces, HasPlaces, IsNew, store_under}
-use Rattle.outside_mem.specs.declared.named.NamedStore.{NamedStore}
+use Rattle.outside.proofs.NamesApart.{among_back, among_front, among-append, either_true, first_among, later_among, name_same}
+use Rattle.outside_mem.specs.Named.{GetsPlaces, HasPlaces, IsNew, item_under}
+use Rattle.outside_mem.specs.declared.named.Named.{Named}
 use Rattle.outside_mem.specs.declared.store.MemObjects.{MemObjects}
-
--- ---- one more store
-
--- the one that was found, or else the last where it has the name
-abbrev or_last : NamedStore → List ℕ → Option MemObjects → Option MemObjects
-or_last last name None = if bytes_eq (string_bytes last.name) name then Some last.store else None
-or_last last name (Some found) = Some found
-
-under_last : (last : NamedStore) (name : List ℕ) (stores : List NamedStore) → store_under (stores ++ last ∷ []) name ≡ or_last last name (store_under stores name)
-under_last last name [] = refl
-under_last last name (one ∷ more) = step (bytes_eq (string_bytes one.name) name) (under_last last name more)
-  where
-    step : (c : Bool) → store_under (more ++ last ∷ []) name ≡ or_last last name (store_under more name) → (if c then Some one.store else store_under (more ++ last ∷ []) name) ≡ or_last last name (if c then Some one.store else store_under more name)
-    step true e = refl
-    step false e = e
-
--- a new store behind others, of a name that had none, is the place of this name
-pub last_gets : (stores : List NamedStore) (last : NamedStore) (name : List ℕ) → string_bytes last.name ≡ name → store_under stores name ≡ None → IsNew last.store → GetsPlaces (name ∷ []) stores (stores ++ last ∷ [])
-last_gets stores last name e none new = λ other. step other (store_under stores other) refl (bytes_eq (string_bytes last.name) other) refl
-  where
-    step : (other : List ℕ) (found : Option MemObjects) → store_under stores other ≡ found → (c : Bool) → bytes_eq (string_bytes last.name) other ≡ c → (store_under (stores ++ last ∷ []) other ≡ store_under stores other) ⊎ ((is_among (name ∷ []) other ≡ true) × (store_under stores other ≡ None) × IsSomeAnd (store_under (stores ++ last ∷ []) other) IsNew)
-    step other (Some found) p c q = inl (under_last last other stores ∙ rw p refl)
-    step other None p false q = inl (under_last last other stores ∙ rw (p, q) refl)
-    step other None p true q =
-        let same : bytes_eq other name ≡ true = subst (λ x. bytes_eq other x ≡ true) e (name_turned (string_bytes last.name) other true q) in
-        let found : store_under (stores ++ last ∷ []) other ≡ Some last.store = under_last last other stores ∙ rw (p, q) refl in
-        inr (rw same refl, p, subst (λ x. IsSomeAnd x IsNew) (sym found) new)
-
-pub last_place : (stores : List NamedStore) (last : NamedStore) (name : List ℕ) → string_bytes last.name ≡ name → IsSome (store_under (stores ++ last ∷ []) name)
-last_place stores last name e = ap is_some (under_last last name stores) ∙ step (store_under stores name)
-  where
-    named : bytes_eq (string_bytes last.name) name ≡ true
-    named = subst (λ x. bytes_eq x name ≡ true) (sym e) (name_self name)
-
-    step : (found : Option MemObjects) → is_some (or_last last name found) ≡ true
-    step None = rw named refl
-    step (Some found) = refl
 
 -- ---- places of several names
 
-pub gets_none : (names : List (List ℕ)) (stores : List NamedStore) → GetsPlaces names stores stores
+pub gets_none : (names : List (List ℕ)) (stores : List (Named MemObjects)) → GetsPlaces IsNew names stores stores
 gets_none names stores = λ name. inl refl
 
 some_and : (found : Option MemObjects) → IsSomeAnd found IsNew → IsSome found
 some_and None h = absurd h
 some_and (Some found) h = refl
 
-pub gets_some : (names : List (List ℕ)) (old new : List NamedStore) (name : List ℕ) → GetsPlaces names old new → IsSome (store_under old name) → IsSome (store_under new name)
-gets_some names old new name gets h = elim (gets name) [ inl e ↦ ap is_some e ∙ h | inr p ↦ some_and (store_under new name) p.2 ]
+pub gets_some : (names : List (List ℕ)) (old new : List (Named MemObjects)) (name : List ℕ) → GetsPlaces IsNew names old new → IsSome (item_under old name) → IsSome (item_under new name)
+gets_some names old new name gets h = elim (gets name) [ inl e ↦ ap is_some e ∙ h | inr p ↦ some_and (item_under new name) p.2 ]
 
 -- places that some names get and then others, all of them among these
-pub gets_more : (names some : List (List ℕ)) (old mid new : List NamedStore) → ((name : List ℕ) → is_among some name ≡ true → is_among names name ≡ true) → GetsPlaces names old mid → GetsPlaces some mid new → GetsPlaces names old new
+pub gets_more : (names some : List (List ℕ)) (old mid new : List (Named MemObjects)) → ((name : List ℕ) → is_among some name ≡ true → is_among names name ≡ true) → GetsPlaces IsNew names old mid → GetsPlaces IsNew some mid new → GetsPlaces IsNew names old new
 gets_more names some old mid new within first next = λ name. elim (first name) [ inl e ↦ elim (next name) [ inl f ↦ inl (f ∙ e) | inr p ↦ inr (within name p.0, sym e ∙ p.1, p.2) ] | inr p ↦ elim (next name) [ inl f ↦ inr (p.0, p.1, subst (λ x. IsSomeAnd x IsNew) (sym f) p.2) | inr q ↦ inr (p.0, p.1, q.2) ] ]
 
 -- each of these names has a place, or is among those that are left
-abbrev pub PlacesBut : List (List ℕ) → List NamedStore → List (List ℕ) → Type 0
-PlacesBut left stores names = (name : List ℕ) → is_among names name ≡ true → (is_among left name ≡ true) ⊎ IsSome (store_under stores name)
+abbrev pub PlacesBut : List (List ℕ) → List (Named MemObjects) → List (List ℕ) → Type 0
+PlacesBut left stores names = (name : List ℕ) → is_among names name ≡ true → (is_among left name ≡ true) ⊎ IsSome (item_under stores name)
 
-pub places_begun : (names : List (List ℕ)) (stores : List NamedStore) → PlacesBut names stores names
+pub places_begun : (names : List (List ℕ)) (stores : List (Named MemObjects)) → PlacesBut names stores names
 places_begun names stores = λ name h. inl h
 
-pub places_on : (front left names some : List (List ℕ)) (old new : List NamedStore) → PlacesBut (front ++ left) old names → GetsPlaces some old new → HasPlaces new front → PlacesBut left new names
+pub places_on : (front left names some : List (List ℕ)) (old new : List (Named MemObjects)) → PlacesBut (front ++ left) old names → GetsPlaces IsNew some old new → HasPlaces new front → PlacesBut left new names
 places_on front left names some old new but gets has = λ name h. elim (but name h) [ inl p ↦ step name (either_true (is_among front name) (is_among left name) (sym (among-append front left name) ∙ p)) | inr q ↦ inr (gets_some some old new name gets q) ]
   where
-    step : (name : List ℕ) → (is_among front name ≡ true) ⊎ (is_among left name ≡ true) → (is_among left name ≡ true) ⊎ IsSome (store_under new name)
+    step : (name : List ℕ) → (is_among front name ≡ true) ⊎ (is_among left name ≡ true) → (is_among left name ≡ true) ⊎ IsSome (item_under new name)
     step name (inl p) = inr (has name p)
     step name (inr p) = inl p
 
-pub places_ended : (names : List (List ℕ)) (stores : List NamedStore) → PlacesBut [] stores names → HasPlaces stores names
+pub places_ended : (names : List (List ℕ)) (stores : List (Named MemObjects)) → PlacesBut [] stores names → HasPlaces stores names
 places_ended names stores but = λ name h. elim (but name h) [ inl p ↦ cc | inr q ↦ q ]
 
 -- ---- places of the names in a list of texts
@@ -90,8 +52,8 @@ among_at text (x ∷ xs) (suc i) d h = later_among (text x) _ (map text xs) (amo
 pub one_among : (name : List ℕ) (names : List (List ℕ)) → is_among names name ≡ true → (other : List ℕ) → is_among (name ∷ []) other ≡ true → is_among names other ≡ true
 one_among name names h other k = elim (either_true (bytes_eq other name) false k) [ inl e ↦ subst (λ x. is_among names x ≡ true) (sym (name_same other name e)) h | inr e ↦ cc ]
 
-pub one_place : (name : List ℕ) (stores : List NamedStore) → IsSome (store_under stores name) → HasPlaces stores (name ∷ [])
-one_place name stores h = λ other k. elim (either_true (bytes_eq other name) false k) [ inl e ↦ subst (λ x. IsSome (store_under stores x)) (sym (name_same other name e)) h | inr e ↦ cc ]
+pub one_place : {T : Type 0} (name : List ℕ) (items : List (Named T)) → IsSome (item_under items name) → HasPlaces items (name ∷ [])
+one_place name items h = λ other k. elim (either_true (bytes_eq other name) false k) [ inl e ↦ subst (λ x. IsSome (item_under items x)) (sym (name_same other name e)) h | inr e ↦ cc ]
 
 pub worker_among : {W : Type 0} (texts : W → List (List ℕ)) (workers : List W) (i : ℕ) (d : W) → i < length workers → (name : List ℕ) → is_among (texts (get_or workers i d)) name ≡ true → is_among (tier_names (map texts workers)) name ≡ true
 worker_among texts [] i d h name k = absurd (omega (arith, h))

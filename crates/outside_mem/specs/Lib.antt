@@ -12,3 +12,4 @@ pub mod DiskLogs
 pub mod DiskLaws
 pub mod Moments
 pub mod Disks
+pub mod NamedAreas

@@ -3,6 +3,7 @@
 //! told to fail.
 #![tactic(auto)]
 
+mod areas;
 mod calls;
 mod disk;
 mod disk_log;
@@ -30,7 +31,7 @@ pub use disk_log::DiskCall;
 pub use failures::Failing;
 pub use inputs::MemSource;
 pub use moment::{DiskMoment, Pick};
-pub use named::NamedStore;
+pub use named::Named;
 pub use outputs::MemSink;
 pub use readers::MemReader;
 pub use shelf::MemShelf;

@@ -1,51 +1,52 @@
-//! Stores in memory by name. No exchange of stores takes memory, since the places of the names are
-//! made before.
+//! What stands under names, and stores in memory by name. No exchange takes memory, since the places
+//! of the names are made before.
 
 ghost use Rattle.std.specs.Prelude.{◌≡◌, ◌∷◌, [], length, map, IsSome, IsTrue, OnOk};
 ghost use Rattle.std.specs.Option.{option_copied};
 ghost use Rattle.std.specs.String.{string_bytes};
 ghost use Rattle.outside.specs.Shelf.{EachNamed, HasShape, all_names, are_distinct, name_lists, tier_names};
-ghost use Rattle.outside_mem.specs.Named.{GetsPlaces, HasPlaces, IsSameBut, IsUnder, found_or, store_under, taken, taken_tiers, with_store, with_stores, with_tiers};
+ghost use Rattle.outside_mem.specs.Named.{GetsPlaces, HasPlaces, IsNew, IsSameBut, IsUnder, found_or, item_under, taken, taken_tiers, with_item, with_stores, with_tiers};
 
+use crate::disk::MemDisk;
 use crate::store::MemObjects;
 use outside::media::{Media, MediaNames};
 use std::alloc::{AllocError, Global};
 use std::mem::swap;
 
-/// A store under a name.
+/// Something under a name.
 #[derive(Debug, Drop)]
-pub struct NamedStore {
+pub struct Named<T> {
     pub name: String,
-    pub store: MemObjects,
+    pub item: T,
 }
 
-/// The first store of a name.
-pub(crate) fn find<'a>(stores: &'a [NamedStore], name: &str) -> Option<&'a MemObjects>
-    ensures { option_copied result ≡ store_under stores.now name.now }
+/// The first under a name.
+pub(crate) fn find<'a, T>(items: &'a [Named<T>], name: &str) -> Option<&'a T>
+    ensures { option_copied result ≡ item_under items.now name.now }
 {
-    for one in stores {
+    for one in items {
         if one.name.as_str() == name {
-            return Some(&one.store);
+            return Some(&one.item);
         }
     }
     None
 }
 
-/// Puts a store under a name that has one, and that one in its place.
-fn exchange(stores: &mut [NamedStore], name: &str, store: &mut MemObjects)
-    ensures stores { stores.new ≡ with_store name.now store.old stores.old }
-    ensures store { store.new ≡ found_or store.old (store_under stores.old name.now) }
+/// Puts something under a name that has something, and that in its place.
+pub(crate) fn exchange<T>(items: &mut [Named<T>], name: &str, item: &mut T)
+    ensures items { items.new ≡ with_item name.now item.old items.old }
+    ensures item { item.new ≡ found_or item.old (item_under items.old name.now) }
 {
-    for one in stores {
+    for one in items {
         if one.name.as_str() == name {
-            swap(&mut one.store, store);
+            swap(&mut one.item, item);
             return;
         }
     }
 }
 
 /// Puts stores under names, and those that were there in their places.
-fn exchange_each(stores: &mut [NamedStore], names: &[String], given: &mut [MemObjects])
+fn exchange_each(stores: &mut [Named<MemObjects>], names: &[String], given: &mut [MemObjects])
     requires { length given.old ≡ length names.now }
     ensures stores { stores.new ≡ with_stores (map string_bytes names.now) given.old stores.old }
     ensures taken { given.new ≡ taken (map string_bytes names.now) given.old stores.old }
@@ -56,7 +57,11 @@ fn exchange_each(stores: &mut [NamedStore], names: &[String], given: &mut [MemOb
 }
 
 /// Puts tiers under names, and those that were there in their places.
-fn exchange_tiers(stores: &mut [NamedStore], names: &[Vec<String>], given: &mut [Vec<MemObjects>])
+fn exchange_tiers(
+    stores: &mut [Named<MemObjects>],
+    names: &[Vec<String>],
+    given: &mut [Vec<MemObjects>],
+)
     requires { map (λ tiers. length tiers.items) given.old ≡ map (λ worker. length worker.items) names.now }
     ensures stores { stores.new ≡ with_tiers (map (λ worker. map string_bytes worker.items) names.now) (map (λ tiers. tiers.items) given.old) stores.old }
     ensures taken { map (λ tiers. tiers.items) given.new ≡ taken_tiers (map (λ worker. map string_bytes worker.items) names.now) (map (λ tiers. tiers.items) given.old) stores.old }
@@ -66,11 +71,11 @@ fn exchange_tiers(stores: &mut [NamedStore], names: &[Vec<String>], given: &mut 
     }
 }
 
-/// Puts media under their names, which have stores, and what was there in their places.
+/// Puts stores and tiers under their names, which have some, and what was there in their places.
 pub(crate) fn exchange_media(
-    stores: &mut [NamedStore],
+    stores: &mut [Named<MemObjects>],
     names: &MediaNames,
-    media: &mut Media<MemObjects>,
+    media: &mut Media<MemDisk, MemObjects>,
 )
     requires shape { HasShape (name_lists names.now) media.old }
     requires distinct { IsTrue (are_distinct (all_names (name_lists names.now))) }
@@ -79,33 +84,38 @@ pub(crate) fn exchange_media(
     ensures given { EachNamed (IsUnder stores.new) (name_lists names.now) media.old }
     ensures others { IsSameBut (all_names (name_lists names.now)) stores.old stores.new }
     ensures places { HasPlaces stores.new (all_names (name_lists names.now)) }
+    ensures areas { media.new.areas ≡ media.old.areas }
 {
     exchange_each(stores, &names.stores, &mut media.stores);
     exchange_tiers(stores, &names.tiers, &mut media.tiers);
 }
 
 /// Makes a new store for a name that has none. An `Err` is want of memory.
-fn make_place(alloc: Global, stores: &mut Vec<NamedStore>, name: &str) -> Result<(), AllocError>
-    ensures place { OnOk result (IsSome (store_under stores.new.items name.now)) }
-    ensures made { GetsPlaces (name.now ∷ []) stores.old.items stores.new.items }
+fn make_place(
+    alloc: Global,
+    stores: &mut Vec<Named<MemObjects>>,
+    name: &str,
+) -> Result<(), AllocError>
+    ensures place { OnOk result (IsSome (item_under stores.new.items name.now)) }
+    ensures made { GetsPlaces IsNew (name.now ∷ []) stores.old.items stores.new.items }
 {
     if find(stores, name).is_some() {
         return Ok(());
     }
     let name = String::from_str(alloc, name)?;
     let store = MemObjects::new(alloc);
-    stores.push(NamedStore { name, store })?;
+    stores.push(Named { name, item: store })?;
     Ok(())
 }
 
 /// Makes a new store for each name that has none. An `Err` is want of memory; then some have none.
 fn make_places(
     alloc: Global,
-    stores: &mut Vec<NamedStore>,
+    stores: &mut Vec<Named<MemObjects>>,
     names: &[String],
 ) -> Result<(), AllocError>
     ensures places { OnOk result (HasPlaces stores.new.items (map string_bytes names.now)) }
-    ensures made { GetsPlaces (map string_bytes names.now) stores.old.items stores.new.items }
+    ensures made { GetsPlaces IsNew (map string_bytes names.now) stores.old.items stores.new.items }
 {
     for name in names {
         make_place(alloc, stores, name)?;
@@ -116,11 +126,11 @@ fn make_places(
 /// Makes a new tier for each name that has none. An `Err` is want of memory; then some have none.
 fn make_tier_places(
     alloc: Global,
-    stores: &mut Vec<NamedStore>,
+    stores: &mut Vec<Named<MemObjects>>,
     names: &[Vec<String>],
 ) -> Result<(), AllocError>
     ensures places { OnOk result (HasPlaces stores.new.items (tier_names (map (λ worker. map string_bytes worker.items) names.now))) }
-    ensures made { GetsPlaces (tier_names (map (λ worker. map string_bytes worker.items) names.now)) stores.old.items stores.new.items }
+    ensures made { GetsPlaces IsNew (tier_names (map (λ worker. map string_bytes worker.items) names.now)) stores.old.items stores.new.items }
 {
     for worker in names {
         make_places(alloc, stores, worker)?;
@@ -132,11 +142,11 @@ fn make_tier_places(
 /// none.
 pub(crate) fn make_media_places(
     alloc: Global,
-    stores: &mut Vec<NamedStore>,
+    stores: &mut Vec<Named<MemObjects>>,
     names: &MediaNames,
 ) -> Result<(), AllocError>
     ensures places { OnOk result (HasPlaces stores.new.items (all_names (name_lists names.now))) }
-    ensures made { GetsPlaces (all_names (name_lists names.now)) stores.old.items stores.new.items }
+    ensures made { GetsPlaces IsNew (all_names (name_lists names.now)) stores.old.items stores.new.items }
 {
     make_places(alloc, stores, &names.stores)?;
     make_tier_places(alloc, stores, &names.tiers)

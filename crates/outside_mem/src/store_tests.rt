@@ -1,5 +1,6 @@
 //! The readers, writers and objects in memory, on small tables of listed calls.
 
+mod areas;
 mod lending;
 
 use crate::{ByNumber, Failing, MemObject, MemObjects, MemReader, MemWriter};

@@ -4,8 +4,9 @@ ghost use Rattle.std.specs.Prelude.{◌≡◌, ◌^◌, ◌-◌, List, ℕ, [], 
 ghost use Rattle.std.specs.Str.{bytes_eq};
 ghost use Rattle.outside.specs.Inputs.{named};
 ghost use Rattle.outside_mem.specs.Held.{bytes_under};
-ghost use Rattle.outside_mem.specs.Named.{store_under};
+ghost use Rattle.outside_mem.specs.Named.{item_under};
 
+use crate::disk::MemDisk;
 use crate::failures::{Failing, counted};
 use crate::inputs::MemSource;
 use crate::outputs::MemSink;
@@ -22,8 +23,8 @@ pub struct Input {
     pub bytes: Vec<u8>,
 }
 
-/// Inputs by name, the two that are open, an output, and stores and tiers by name, all in memory; it
-/// tells all of it.
+/// Inputs by name, the two that are open, an output, and areas, stores and tiers by name, all in
+/// memory; it tells all of it.
 #[derive(Debug, Drop)]
 pub struct MemWorld {
     /// What the copies of inputs are made with.
@@ -34,7 +35,7 @@ pub struct MemWorld {
     pub choose_failing: Failing,
     /// How many calls of `choose` there were, up to 2^64 - 1.
     pub choose_calls: u64,
-    /// The stores and tiers that it holds, and the names of those that are lent.
+    /// The areas, stores and tiers that it holds, and the names of those that are lent.
     pub shelf: MemShelf,
     /// The calls of `assemble` that fail.
     pub assemble_failing: Failing,
@@ -73,6 +74,7 @@ impl MemWorld {
     pub fn new(alloc: Global) -> MemWorld
         ensures inputs { result.inputs.items ≡ [] }
         ensures stores { result.shelf.stores.items ≡ [] }
+        ensures areas { result.shelf.areas.items ≡ [] }
         ensures lent { result.shelf.lent ≡ None }
         ensures failing { (result.choose_failing.calls.items ≡ []) × (result.choose_failing.from ≡ None) }
         ensures assemble_failing { (result.assemble_failing.calls.items ≡ []) × (result.assemble_failing.from ≡ None) }
@@ -114,8 +116,9 @@ impl MemWorld {
     /// Holds a store or tier under a name, in the place of what it held there. An `Err` is want of
     /// memory; then it holds what it did.
     pub fn hold_store(&mut self, name: &str, store: MemObjects) -> Result<(), AllocError>
-        ensures ok { OnOk result ((other : List ℕ) → store_under self.new.shelf.stores.items other ≡ (if bytes_eq name.now other then Some store else store_under self.old.shelf.stores.items other)) }
+        ensures ok { OnOk result ((other : List ℕ) → item_under self.new.shelf.stores.items other ≡ (if bytes_eq name.now other then Some store else item_under self.old.shelf.stores.items other)) }
         ensures err { OnErr result (self.new.shelf.stores.items ≡ self.old.shelf.stores.items) }
+        ensures areas { self.new.shelf.areas.items ≡ self.old.shelf.areas.items }
         ensures lent { self.new.shelf.lent ≡ self.old.shelf.lent }
         ensures inputs { self.new.inputs.items ≡ self.old.inputs.items }
         ensures output { self.new.out ≡ self.old.out }
@@ -125,21 +128,47 @@ impl MemWorld {
     {
         self.shelf.hold(name, store)
     }
+
+    /// Holds two areas under a journal's name, in the place of what it held there. An `Err` is want of
+    /// memory; then it holds what it did.
+    pub fn hold_areas(
+        &mut self,
+        name: &str,
+        first: MemDisk,
+        second: MemDisk,
+    ) -> Result<(), AllocError>
+        ensures ok { OnOk result ((other : List ℕ) → item_under self.new.shelf.areas.items other ≡ (if bytes_eq name.now other then Some (first, second) else item_under self.old.shelf.areas.items other)) }
+        ensures err { OnErr result (self.new.shelf.areas.items ≡ self.old.shelf.areas.items) }
+        ensures stores { self.new.shelf.stores.items ≡ self.old.shelf.stores.items }
+        ensures lent { self.new.shelf.lent ≡ self.old.shelf.lent }
+        ensures inputs { self.new.inputs.items ≡ self.old.inputs.items }
+        ensures output { self.new.out ≡ self.old.out }
+        ensures opened { (self.new.config ≡ self.old.config) × (self.new.script ≡ self.old.script) }
+        ensures lists { (self.new.choose_failing ≡ self.old.choose_failing) × (self.new.assemble_failing ≡ self.old.assemble_failing) }
+        ensures counts { (self.new.choose_calls ≡ self.old.choose_calls) × (self.new.assemble_calls ≡ self.old.assemble_calls) × (self.new.faults ≡ self.old.faults) × (self.new.misses ≡ self.old.misses) }
+    {
+        self.shelf.hold_areas(name, first, second)
+    }
 }
 
 impl World for MemWorld {
-    ghost use Rattle.std.specs.Prelude.{◌≤◌, ◌⊎◌, Err, IfOk, IfSome, IsSomeAnd, IsTrue, false, refl};
+    ghost use Rattle.std.specs.Prelude.{◌≤◌, ◌⊎◌, ◌∷◌, Err, IfOk, IfSome, IsSomeAnd, IsTrue, false, true, refl};
+    ghost use Rattle.outside.specs.AreaShelf.{AreFresh, HoldsAreas, KeepsAreasBut, LacksAreas};
     ghost use Rattle.outside.specs.Causes.{next_count, Rose};
     ghost use Rattle.outside.specs.Inputs.{is_missed, Opens};
     ghost use Rattle.outside.specs.Shelf.{EachNamed, HasShape, KeepsBut, LacksEach, TellsHeld, all_names, are_distinct, name_lists};
     ghost use Rattle.outside_mem.specs.Counts.{counted};
+    ghost use Rattle.outside_mem.specs.Disks.{disk_history};
     ghost use Rattle.outside_mem.specs.Failures.{is_failing};
     ghost use Rattle.outside_mem.specs.Fakes.{left_of};
-    ghost use Rattle.outside_mem.specs.Named.{IsFound, IsSameBut, IsUnder, shelf_of, store_under, told_of};
+    ghost use Rattle.outside_mem.specs.Named.{IsFound, IsSameBut, IsUnder, shelf_of, item_under, told_of};
+    ghost use Rattle.outside_mem.specs.NamedAreas.{AreFoundAreas, areas_of, unfused};
 
     type In = MemSource;
 
     type Out = MemSink;
+
+    type Area = MemDisk;
 
     type Store = MemObjects;
 
@@ -156,6 +185,8 @@ impl World for MemWorld {
     ghost with_output = { λ w o. record w { out = o } };
 
     ghost shelf = { λ w. Some (shelf_of w.shelf.stores.items) };
+
+    ghost areas = { λ w. Some (areas_of w.shelf.areas.items) };
 
     ghost lent = { λ w. option_map name_lists w.shelf.lent };
 
@@ -177,6 +208,7 @@ impl World for MemWorld {
 
         ensures held { Some (bytes_under self.new.inputs.items) ≡ Some (bytes_under self.old.inputs.items) }
         ensures shelf { Some (shelf_of self.new.shelf.stores.items) ≡ Some (shelf_of self.old.shelf.stores.items) }
+        ensures areas { Some (areas_of self.new.shelf.areas.items) ≡ Some (areas_of self.old.shelf.areas.items) }
         ensures lent { option_map name_lists self.new.shelf.lent ≡ option_map name_lists self.old.shelf.lent }
         ensures output { self.new.out ≡ self.old.out }
         ensures kept { OnErr result ((self.new.config ≡ self.old.config) × (self.new.script ≡ self.old.script)) }
@@ -217,22 +249,27 @@ impl World for MemWorld {
         &mut self.out
     }
 
-    /// Fails exactly where it was told to. At `Ok` each store and tier is the very one that it holds
-    /// under the name, with its lists and counts, or a new one. The call is counted.
-    fn assemble(&mut self, names: &MediaNames) -> Result<Media<MemObjects>, Fail>
+    /// Fails exactly where it was told to. At `Ok` each area, store and tier is the very one that it
+    /// holds under the name, with its lists and counts, or a new one. The call is counted.
+    fn assemble(&mut self, names: &MediaNames) -> Result<Media<MemDisk, MemObjects>, Fail>
         requires idle { option_map name_lists self.old.shelf.lent ≡ None }
         requires distinct { IsTrue (are_distinct (all_names (name_lists names.now))) }
         ensures shape { IfOk result (HasShape (name_lists names.now)) }
         ensures told { IfOk result (EachNamed (TellsHeld told_of (Some (shelf_of self.old.shelf.stores.items))) (name_lists names.now)) }
         ensures lent { OnOk result (option_map name_lists self.new.shelf.lent ≡ Some (name_lists names.now)) }
+        ensures areas { IfOk result (λ media. HoldsAreas (λ _. true) disk_history (Some (areas_of self.old.shelf.areas.items)) (name_lists names.now).journal media.areas) }
+        ensures fresh { IfOk result (λ media. AreFresh (λ _. true) (Some (areas_of self.old.shelf.areas.items)) media.areas) }
         ensures gone { OnOk result (LacksEach (all_names (name_lists names.now)) (Some (shelf_of self.new.shelf.stores.items))) }
         ensures others { OnOk result (KeepsBut (all_names (name_lists names.now)) (Some (shelf_of self.old.shelf.stores.items)) (Some (shelf_of self.new.shelf.stores.items))) }
+        ensures areas_gone { OnOk result (LacksAreas (name_lists names.now).journal (Some (areas_of self.new.shelf.areas.items))) }
+        ensures areas_others { OnOk result (KeepsAreasBut (name_lists names.now).journal (Some (areas_of self.old.shelf.areas.items)) (Some (areas_of self.new.shelf.areas.items))) }
 
         ensures failed { result ≡ Err Fail.Failed → Rose self.old.faults self.new.faults }
         ensures later { self.old.faults ≤ self.new.faults }
         ensures misses { self.new.misses ≡ self.old.misses }
         ensures idle { OnErr result (option_map name_lists self.new.shelf.lent ≡ None) }
         ensures kept { OnErr result (Some (shelf_of self.new.shelf.stores.items) ≡ Some (shelf_of self.old.shelf.stores.items)) }
+        ensures areas_kept { OnErr result (Some (areas_of self.new.shelf.areas.items) ≡ Some (areas_of self.old.shelf.areas.items)) }
 
         ensures held { Some (bytes_under self.new.inputs.items) ≡ Some (bytes_under self.old.inputs.items) }
         ensures output { self.new.out ≡ self.old.out }
@@ -243,8 +280,10 @@ impl World for MemWorld {
         ensures unlisted { is_failing self.old.assemble_failing (next_count self.old.assemble_calls) ≡ false → result ≡ Err Fail.Failed → ⊥ }
         ensures calls { self.new.assemble_calls ≡ next_count self.old.assemble_calls }
         ensures faults { self.new.faults ≡ counted self.old.faults (is_failing self.old.assemble_failing (next_count self.old.assemble_calls)) }
-        ensures found { IfOk result (EachNamed (λ name. IsFound (store_under self.old.shelf.stores.items name)) (name_lists names.now)) }
+        ensures found { IfOk result (EachNamed (λ name. IsFound (item_under self.old.shelf.stores.items name)) (name_lists names.now)) }
         ensures stores { OnOk result (IsSameBut (all_names (name_lists names.now)) self.old.shelf.stores.items self.new.shelf.stores.items) }
+        ensures areas_found { IfOk result (λ media. AreFoundAreas (item_under self.old.shelf.areas.items (name_lists names.now).journal) (unfused media.areas)) }
+        ensures areas_same { OnOk result (IsSameBut ((name_lists names.now).journal ∷ []) self.old.shelf.areas.items self.new.shelf.areas.items) }
         ensures inputs { self.new.inputs.items ≡ self.old.inputs.items }
         ensures lists { (self.new.choose_failing ≡ self.old.choose_failing) × (self.new.assemble_failing ≡ self.old.assemble_failing) }
         ensures choosing { self.new.choose_calls ≡ self.old.choose_calls }
@@ -258,11 +297,14 @@ impl World for MemWorld {
         Ok(self.shelf.lend(names)?)
     }
 
-    /// From then on the stores and tiers of the media are those that it holds under the lent names.
-    fn give_back(&mut self, media: Media<MemObjects>)
+    /// From then on the areas, stores and tiers of the media are those that it holds under the lent
+    /// names.
+    fn give_back(&mut self, media: Media<MemDisk, MemObjects>)
         requires { IsSomeAnd (option_map name_lists self.old.shelf.lent) (λ names. HasShape names media) }
         ensures told { IfSome (option_map name_lists self.old.shelf.lent) (λ names. EachNamed (TellsHeld told_of (Some (shelf_of self.new.shelf.stores.items))) names media) }
         ensures others { IfSome (option_map name_lists self.old.shelf.lent) (λ names. KeepsBut (all_names names) (Some (shelf_of self.old.shelf.stores.items)) (Some (shelf_of self.new.shelf.stores.items))) }
+        ensures areas { IfSome (option_map name_lists self.old.shelf.lent) (λ names. HoldsAreas (λ _. true) disk_history (Some (areas_of self.new.shelf.areas.items)) names.journal media.areas) }
+        ensures areas_others { IfSome (option_map name_lists self.old.shelf.lent) (λ names. KeepsAreasBut names.journal (Some (areas_of self.old.shelf.areas.items)) (Some (areas_of self.new.shelf.areas.items))) }
         ensures idle { option_map name_lists self.new.shelf.lent ≡ None }
 
         ensures faults { self.new.faults ≡ self.old.faults }
@@ -275,6 +317,8 @@ impl World for MemWorld {
 
         ensures given { IfSome (option_map name_lists self.old.shelf.lent) (λ names. EachNamed (IsUnder self.new.shelf.stores.items) names media) }
         ensures stores { IfSome (option_map name_lists self.old.shelf.lent) (λ names. IsSameBut (all_names names) self.old.shelf.stores.items self.new.shelf.stores.items) }
+        ensures areas_given { IfSome (option_map name_lists self.old.shelf.lent) (λ names. IsUnder self.new.shelf.areas.items names.journal (unfused media.areas)) }
+        ensures areas_same { IfSome (option_map name_lists self.old.shelf.lent) (λ names. IsSameBut (names.journal ∷ []) self.old.shelf.areas.items self.new.shelf.areas.items) }
         ensures inputs { self.new.inputs.items ≡ self.old.inputs.items }
         ensures lists { (self.new.choose_failing ≡ self.old.choose_failing) × (self.new.assemble_failing ≡ self.old.assemble_failing) }
         ensures calls { (self.new.choose_calls ≡ self.old.choose_calls) × (self.new.assemble_calls ≡ self.old.assemble_calls) }
@@ -292,6 +336,8 @@ impl World for MemWorld {
 
     ghost script_keeps_shelf = { λ w i. refl };
 
+    ghost script_keeps_areas = { λ w i. refl };
+
     ghost script_keeps_lent = { λ w i. refl };
 
     ghost script_keeps_faults = { λ w i. refl };
@@ -307,6 +353,8 @@ impl World for MemWorld {
     ghost output_keeps_script = { λ w o. refl };
 
     ghost output_keeps_shelf = { λ w o. refl };
+
+    ghost output_keeps_areas = { λ w o. refl };
 
     ghost output_keeps_lent = { λ w o. refl };
 

@@ -9,6 +9,7 @@ use Rattle.fs_model.specs.declared.reply.Line.{Line}
 use Rattle.fs_model.specs.State.{Whole}
 use Rattle.fs_model.specs.Step.{WholeStep, Observation, Run}
 use Rattle.outside.specs.Streams.{Takes}
+use Rattle.outside.specs.declared.disk.Disk as disks
 use Rattle.outside.specs.declared.objects.Objects as objects
 use Rattle.outside.specs.declared.objects.ObjectRead as reads
 use Rattle.outside.specs.declared.objects.ObjectWrite as writes
@@ -66,22 +67,22 @@ next_command cs i c lt at = ap (λ (x : Command). take i cs ++ x ∷ []) at ∙ 
 
 -- ---- runs
 
-module _ {S R W : Type 0} (o : objects.Ghosts S R W) (r : reads.Ghosts R) (w : writes.Ghosts W) where
-  rise_more : (ls : List Line) (seen : List Observation) (l : Line) (x : Observation) (old mid new : Core S R W w) → RiseAlong o r w old ls seen mid → Rises o r w mid new l.actor l.event x.rise → MediaStays o mid new → (IsSteady o r w mid → IsSteady o r w new) → RiseAlong o r w old (ls ++ l ∷ []) (seen ++ x ∷ []) new
-  rise_more [] [] l x old mid new along h stays steady = (new, subst (λ (y : Core S R W w). Rises o r w y new l.actor l.event x.rise) along h, subst (λ (y : Core S R W w). MediaStays o y new) along stays, subst (λ (y : Core S R W w). IsSteady o r w y → IsSteady o r w new) along steady, refl)
+module _ {D S R W : Type 0} (d : disks.Ghosts D) (o : objects.Ghosts S R W) (r : reads.Ghosts R) (w : writes.Ghosts W) where
+  rise_more : (ls : List Line) (seen : List Observation) (l : Line) (x : Observation) (old mid new : Core D S R W d w) → RiseAlong d o r w old ls seen mid → Rises d o r w mid new l.actor l.event x.rise → MediaStays d o mid new → (IsSteady d o r w mid → IsSteady d o r w new) → RiseAlong d o r w old (ls ++ l ∷ []) (seen ++ x ∷ []) new
+  rise_more [] [] l x old mid new along h stays steady = (new, subst (λ (y : Core D S R W d w). Rises d o r w y new l.actor l.event x.rise) along h, subst (λ (y : Core D S R W d w). MediaStays d o y new) along stays, subst (λ (y : Core D S R W d w). IsSteady d o r w y → IsSteady d o r w new) along steady, refl)
   rise_more (m ∷ ls) (y ∷ ys) l x old mid new along h stays steady = (along.0, along.1, along.2, along.3, rise_more ls ys l x along.0 mid new along.4 h stays steady)
   rise_more [] (y ∷ ys) l x old mid new along h stays steady = absurd along
   rise_more (m ∷ ls) [] l x old mid new along h stays steady = absurd along
 
-  cause_more : (ls : List Line) (l : Line) (old mid new : Core S R W w) → CausedAlong o r w old ls mid → IsCaused o r w mid new l.actor l.event l.reply → MediaStays o mid new → (IsSteady o r w mid → IsSteady o r w new) → CausedAlong o r w old (ls ++ l ∷ []) new
-  cause_more [] l old mid new along h stays steady = (new, subst (λ (y : Core S R W w). IsCaused o r w y new l.actor l.event l.reply) along h, subst (λ (y : Core S R W w). MediaStays o y new) along stays, subst (λ (y : Core S R W w). IsSteady o r w y → IsSteady o r w new) along steady, refl)
+  cause_more : (ls : List Line) (l : Line) (old mid new : Core D S R W d w) → CausedAlong d o r w old ls mid → IsCaused d o r w mid new l.actor l.event l.reply → MediaStays d o mid new → (IsSteady d o r w mid → IsSteady d o r w new) → CausedAlong d o r w old (ls ++ l ∷ []) new
+  cause_more [] l old mid new along h stays steady = (new, subst (λ (y : Core D S R W d w). IsCaused d o r w y new l.actor l.event l.reply) along h, subst (λ (y : Core D S R W d w). MediaStays d o y new) along stays, subst (λ (y : Core D S R W d w). IsSteady d o r w y → IsSteady d o r w new) along steady, refl)
   cause_more (m ∷ ls) l old mid new along h stays steady = (along.0, along.1, along.2, along.3, cause_more ls l along.0 mid new along.4 h stays steady)
 
-  ran_nothing : (U : Setup) (V : Whole) (core : Core S R W w) → Stands o r w U core V → Ran o r w U V core [] core
-  ran_nothing U V core stands = record { after = V; seen = []; run = refl; rose = refl; faults = run_faults o r U V V core [] [] core refl refl; not_ready = run_waits o r U V V core [] [] core refl refl; few = sums o r core [] [] core refl; steady = λ steady. steady_sums o r w core [] [] core refl steady; stands = stands }
+  ran_nothing : (U : Setup) (V : Whole) (core : Core D S R W d w) → Stands d o r w U core V → Ran d o r w U V core [] core
+  ran_nothing U V core stands = record { after = V; seen = []; run = refl; rose = refl; faults = run_faults o r U V V core [] [] core refl refl; not_ready = run_waits o r U V V core [] [] core refl refl; few = sums o r core [] [] core refl; steady = λ steady. steady_sums d o r w core [] [] core refl steady; stands = stands }
 
   -- one line more
-  ran_more : (U : Setup) (c : Command) (ls : List Line) (l : Line) (V : Whole) (old mid new : Core S R W w) → Ran o r w U V old ls mid → Acts o r w c l mid new → Ran o r w U V old (ls ++ l ∷ []) new
+  ran_more : (U : Setup) (c : Command) (ls : List Line) (l : Line) (V : Whole) (old mid new : Core D S R W d w) → Ran d o r w U V old ls mid → Acts d o r w c l mid new → Ran d o r w U V old (ls ++ l ∷ []) new
   ran_more U c ls l V old mid new ran acts =
       let goes = acts.steps U ran.after ran.stands in
       let x : Observation = record { rise = goes.rise; made = goes.made } in
@@ -97,11 +98,11 @@ module _ {S R W : Type 0} (o : objects.Ghosts S R W) (r : reads.Ghosts R) (w : w
         faults = run_faults o r U V goes.after old lines seen new rose run;
         not_ready = run_waits o r U V goes.after old lines seen new rose run;
         few = sums o r old lines seen new rose;
-        steady = steady_sums o r w old lines seen new rose;
+        steady = steady_sums d o r w old lines seen new rose;
         stands = goes.stands;
       }
 
-  did_more : (cs : List Command) (c : Command) (ls : List Line) (l : Line) (old mid new : Core S R W w) → Lines o r w cs old ls mid → Acts o r w c l mid new → Lines o r w (cs ++ c ∷ []) old (ls ++ l ∷ []) new
+  did_more : (cs : List Command) (c : Command) (ls : List Line) (l : Line) (old mid new : Core D S R W d w) → Lines d o r w cs old ls mid → Acts d o r w c l mid new → Lines d o r w (cs ++ c ∷ []) old (ls ++ l ∷ []) new
   did_more cs c ls l old mid new did acts = record {
     played = played_more cs ls c l acts.says did.played;
     caused = cause_more ls l old mid new did.caused acts.cause acts.media acts.steady;
@@ -110,12 +111,12 @@ module _ {S R W : Type 0} (o : objects.Ghosts S R W) (r : reads.Ghosts R) (w : w
 
   -- ---- what the sink took
 
-  pub begins : (core : Core S R W w) (a : Option (List ℕ)) → Tells o r w [] core core a a
+  pub begins : (core : Core D S R W d w) (a : Option (List ℕ)) → Tells d o r w [] core core a a
   begins core a = record { lines = []; did = record { played = tt; caused = refl; ran = λ U V stands. ran_nothing U V core stands }; text = Takes-nil a }
 
-  module _ (all : List Command) (k : ℕ) (first old : Core S R W w) (a b : Option (List ℕ)) (so_far : Tells o r w (take k all) first old a b) where
+  module _ (all : List Command) (k : ℕ) (first old : Core D S R W d w) (a b : Option (List ℕ)) (so_far : Tells d o r w (take k all) first old a b) where
     -- nothing more was done
-    pub in_front : TellsFront o r w all first old a b
+    pub in_front : TellsFront d o r w all first old a b
     in_front = record {
       count = k;
       lines = so_far.lines;
@@ -125,25 +126,25 @@ module _ {S R W : Type 0} (o : objects.Ghosts S R W) (r : reads.Ghosts R) (w : w
       text = subst (λ ls. Takes a b (lines_text ls)) (sym (take_whole so_far.lines)) so_far.text;
     }
 
-    module _ (c : Command) (l : Line) (new : Core S R W w) (front : take k all ++ c ∷ [] ≡ take (k + 1) all) (acts : Acts o r w c l old new) where
+    module _ (c : Command) (l : Line) (new : Core D S R W d w) (front : take k all ++ c ∷ [] ≡ take (k + 1) all) (acts : Acts d o r w c l old new) where
       lines : List Line
       lines = so_far.lines ++ l ∷ []
 
-      did : Lines o r w (take (k + 1) all) first lines new
+      did : Lines d o r w (take (k + 1) all) first lines new
       unfolding lines
-      did = subst (λ cs. Lines o r w cs first lines new) front (did_more (take k all) c so_far.lines l first old new so_far.did acts)
+      did = subst (λ cs. Lines d o r w cs first lines new) front (did_more (take k all) c so_far.lines l first old new so_far.did acts)
 
       -- one command more was done and told
-      pub goes_on : (d : Option (List ℕ)) → Takes b d (line_text l) → Tells o r w (take (k + 1) all) first new a d
+      pub goes_on : (z : Option (List ℕ)) → Takes b z (line_text l) → Tells d o r w (take (k + 1) all) first new a z
       unfolding lines
-      goes_on d told = record {
+      goes_on z told = record {
         lines = lines;
         did = did;
-        text = subst (λ xs. Takes a d xs) (sym (lines_more so_far.lines l)) (Takes-trans a b d (lines_text so_far.lines) (line_text l) so_far.text told);
+        text = subst (λ xs. Takes a z xs) (sym (lines_more so_far.lines l)) (Takes-trans a b z (lines_text so_far.lines) (line_text l) so_far.text told);
       }
 
       -- it was done and not told
-      pub untold : TellsFront o r w all first new a b
+      pub untold : TellsFront d o r w all first new a b
       unfolding lines
       untold = record {
         count = k + 1;
@@ -155,16 +156,16 @@ module _ {S R W : Type 0} (o : objects.Ghosts S R W) (r : reads.Ghosts R) (w : w
       }
 
       -- it was done, and a front of its line was told
-      pub partly : (d : Option (List ℕ)) (n : ℕ) → Takes b d (take n (line_text l)) → TellsPartly o r w all first new a d
+      pub partly : (z : Option (List ℕ)) (n : ℕ) → Takes b z (take n (line_text l)) → TellsPartly d o r w all first new a z
       unfolding lines
-      partly d n told = record {
+      partly z n told = record {
         count = k + 1;
         lines = lines;
         did = did;
         told = length so_far.lines;
         late = one_longer so_far.lines l;
         bytes = n;
-        text = subst (λ xs. Takes a d xs) (sym shown) (Takes-trans a b d (lines_text so_far.lines) (take n (line_text l)) so_far.text told);
+        text = subst (λ xs. Takes a z xs) (sym shown) (Takes-trans a b z (lines_text so_far.lines) (take n (line_text l)) so_far.text told);
       }
         where
           last : lines_text (drop (length so_far.lines) lines) ≡ line_text l
@@ -174,8 +175,8 @@ module _ {S R W : Type 0} (o : objects.Ghosts S R W) (r : reads.Ghosts R) (w : w
           shown = ap (λ ls. lines_text ls ++ take n (lines_text (drop (length so_far.lines) lines))) (take_front so_far.lines (l ∷ [])) ∙ ap (λ xs. lines_text so_far.lines ++ take n xs) last
 
 -- where no count rose, no line answers a fault or a wait
-pub quiet_runs : {S R W : Type 0} (o : objects.Ghosts S R W) (r : reads.Ghosts R) (w : writes.Ghosts W) → QuietRuns o r w
-quiet_runs o r w U V old new lines ran none same hands waited = (
+pub quiet_runs : {D S R W : Type 0} (d : disks.Ghosts D) (o : objects.Ghosts S R W) (r : reads.Ghosts R) (w : writes.Ghosts W) → QuietRuns d o r w
+quiet_runs d o r w U V old new lines ran none same hands waited = (
   let few = ran.few none in omega (arith, few, ran.faults, same, hands),
   omega (arith, ran.not_ready, waited),
 )

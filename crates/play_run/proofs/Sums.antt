@@ -14,6 +14,7 @@ use Rattle.fs_model.specs.Faults.{Rise}
 use Rattle.fs_model.specs.Step.{Observation, WholeStep, Run}
 use Rattle.fs_model.specs.Laws.{is_caused}
 use Rattle.fs_model.proofs.Causes.{faults_have_causes}
+use Rattle.outside.specs.declared.disk.Disk as disks
 use Rattle.outside.specs.declared.objects.Objects as objects
 use Rattle.outside.specs.declared.objects.ObjectRead as reads
 use Rattle.outside.specs.declared.objects.ObjectWrite as writes
@@ -92,11 +93,11 @@ module _ {S R W : Type 0} (o : objects.Ghosts S R W) where
   node_stays : {n m : Node S} → TiersStay o n m → node_total o n ≤ node_total o m
   node_stays {n} {m} stays = sum_stays o.faults n.tiers.items m.tiers.items stays.same_length stays.faults
 
-  module _ {w : writes.Ghosts W} where
+  module _ {D : Type 0} {d : disks.Ghosts D} {w : writes.Ghosts W} where
     -- ---- a core
 
     -- none stood at its last value before
-    none_before : (old new : Core S R W w) → MediaStays o old new → NoneLast o new → NoneLast o old
+    none_before : (old new : Core D S R W d w) → MediaStays d o old new → NoneLast o new → NoneLast o old
     none_before old new stays none i t n s was there =
         let m = get_or new.workers.items i n in
         let is = still_there old.workers.items new.workers.items i n stays.workers.same_length was in
@@ -107,11 +108,11 @@ module _ {S R W : Type 0} (o : objects.Ghosts S R W) where
         let few = none i t m u is here in
         omega (arith, less, few)
 
-    total_stays : (old new : Core S R W w) → MediaStays o old new → total o old ≤ total o new
+    total_stays : (old new : Core D S R W d w) → MediaStays d o old new → total o old ≤ total o new
     total_stays old new stays = sum_stays (node_total o) old.workers.items new.workers.items stays.workers.same_length (λ i n m was is. node_stays (stays.workers.each i n m was is))
 
     module _ (r : reads.Ghosts R) where
-      tier_rises : (old new : Core S R W w) (v t : ℕ) → TierRose o r w old new v t → MediaStays o old new → NoneLast o new → total o old + 1 ≤ total o new
+      tier_rises : (old new : Core D S R W d w) (v t : ℕ) → TierRose o r w old new v t → MediaStays d o old new → NoneLast o new → total o old + 1 ≤ total o new
       tier_rises old new v t rose stays none =
           let at = both_there _ _ rose in
           let n = at.0 in
@@ -122,7 +123,7 @@ module _ {S R W : Type 0} (o : objects.Ghosts S R W) where
           let up = sum_rises o.faults n.tiers.items m.tiers.items t tier.0 tier.1 node.same_length node.faults tier.2 tier.3 (rose_by_one (o.faults tier.0) (o.faults tier.1) _ tier.4 few) in
           sum_rises (node_total o) old.workers.items new.workers.items (pred v) n m stays.workers.same_length (λ i a b was is. node_stays (stays.workers.each i a b was is)) at.2 at.3 up
 
-      line_rises : (old new : Core S R W w) (who : ℕ) (e : Event) (rise : Rise) (h : Rises o r w old new who e rise) → MediaStays o old new → NoneLast o new → total o old + cond (is_of_tier o r w old new who e rise h) 1 0 ≤ total o new
+      line_rises : (old new : Core D S R W d w) (who : ℕ) (e : Event) (rise : Rise) (h : Rises d o r w old new who e rise) → MediaStays d o old new → NoneLast o new → total o old + cond (is_of_tier d o r w old new who e rise h) 1 0 ≤ total o new
       line_rises old new who e rise (Rises.OfTier v t h) stays none = tier_rises old new v t h stays none
       line_rises old new who e rise Rises.Nothing stays none = let less = total_stays old new stays in omega (arith, less)
       line_rises old new who e rise (Rises.OfHand v l u h) stays none = let less = total_stays old new stays in omega (arith, less)
@@ -131,8 +132,8 @@ module _ {S R W : Type 0} (o : objects.Ghosts S R W) where
       -- ---- a chain of cores
 
       -- none stood at its last value at the beginning, and the sum rose by one or more at each line that is counted
-      along_rises : (old : Core S R W w) (lines : List Line) (seen : List Observation) (new : Core S R W w) (along : RiseAlong o r w old lines seen new) → NoneLast o new → NoneLast o old × (total o old + own o r w old lines seen new along ≤ total o new)
-      along_rises old [] [] new along none = subst (λ (core : Core S R W w). NoneLast o core × (total o core + 0 ≤ total o new)) along (none, omega arith)
+      along_rises : (old : Core D S R W d w) (lines : List Line) (seen : List Observation) (new : Core D S R W d w) (along : RiseAlong d o r w old lines seen new) → NoneLast o new → NoneLast o old × (total o old + own d o r w old lines seen new along ≤ total o new)
+      along_rises old [] [] new along none = subst (λ (core : Core D S R W d w). NoneLast o core × (total o core + 0 ≤ total o new)) along (none, omega arith)
       along_rises old (line ∷ lines) (x ∷ more) new along none =
           let rest = along_rises along.0 lines more new along.4 none in
           let first = line_rises old along.0 line.actor line.event x.rise along.1 along.2 rest.0 in
@@ -140,17 +141,17 @@ module _ {S R W : Type 0} (o : objects.Ghosts S R W) where
       along_rises old [] (x ∷ more) new along none = absurd along
       along_rises old (line ∷ lines) [] new along none = absurd along
 
-      pub sums : (old : Core S R W w) (lines : List Line) (seen : List Observation) (new : Core S R W w) (along : RiseAlong o r w old lines seen new) → NoneLast o new → total o old + own o r w old lines seen new along ≤ total o new
+      pub sums : (old : Core D S R W d w) (lines : List Line) (seen : List Observation) (new : Core D S R W d w) (along : RiseAlong d o r w old lines seen new) → NoneLast o new → total o old + own d o r w old lines seen new along ≤ total o new
       sums old lines seen new along none = (along_rises old lines seen new along none).1
 
       -- a line's answer, and what rose in it
-      line_faults : (old new : Core S R W w) (who : ℕ) (e : Event) (rise : Rise) (h : Rises o r w old new who e rise) (U : Setup) (A : State) (H : Hands) (reply : Reply) → is_caused U A H e rise reply ≡ true → cond (is_tier_fault reply) 1 0 ≤ cond (is_of_tier o r w old new who e rise h) 1 0 + cond (is_of_hand o r w old new who e rise h) 1 0
+      line_faults : (old new : Core D S R W d w) (who : ℕ) (e : Event) (rise : Rise) (h : Rises d o r w old new who e rise) (U : Setup) (A : State) (H : Hands) (reply : Reply) → is_caused U A H e rise reply ≡ true → cond (is_tier_fault reply) 1 0 ≤ cond (is_of_tier d o r w old new who e rise h) 1 0 + cond (is_of_hand d o r w old new who e rise h) 1 0
       line_faults old new who e rise Rises.Nothing U A H reply is = none_of (is_tier_fault reply) (no_tier_fault U A H e rise reply refl is)
       line_faults old new who e rise (Rises.OfTier v t h) U A H reply is = one (is_tier_fault reply)
       line_faults old new who e rise (Rises.OfHand v l u h) U A H reply is = one (is_tier_fault reply)
       line_faults old new who e rise (Rises.OfWaits v l u h) U A H reply is = none_of (is_tier_fault reply) (no_tier_fault U A H e rise reply refl is)
 
-      line_waits : (old new : Core S R W w) (who : ℕ) (e : Event) (rise : Rise) (h : Rises o r w old new who e rise) (U : Setup) (A : State) (H : Hands) (reply : Reply) → is_caused U A H e rise reply ≡ true → cond (is_wait reply) 1 0 ≤ cond (is_of_waits o r w old new who e rise h) 1 0
+      line_waits : (old new : Core D S R W d w) (who : ℕ) (e : Event) (rise : Rise) (h : Rises d o r w old new who e rise) (U : Setup) (A : State) (H : Hands) (reply : Reply) → is_caused U A H e rise reply ≡ true → cond (is_wait reply) 1 0 ≤ cond (is_of_waits d o r w old new who e rise h) 1 0
       line_waits old new who e rise Rises.Nothing U A H reply is = none_of (is_wait reply) (no_wait U A H e rise reply refl is)
       line_waits old new who e rise (Rises.OfTier v t h) U A H reply is = none_of (is_wait reply) (no_wait U A H e rise reply refl is)
       line_waits old new who e rise (Rises.OfHand v l u h) U A H reply is = none_of (is_wait reply) (no_wait U A H e rise reply refl is)
@@ -158,7 +159,7 @@ module _ {S R W : Type 0} (o : objects.Ghosts S R W) where
 
       -- ---- a run
 
-      pub run_faults : (U : Setup) (V after : Whole) (old : Core S R W w) (lines : List Line) (seen : List Observation) (new : Core S R W w) (along : RiseAlong o r w old lines seen new) → Run U V lines after seen → answers is_tier_fault lines ≤ own o r w old lines seen new along + labels o r w old lines seen new along
+      pub run_faults : (U : Setup) (V after : Whole) (old : Core D S R W d w) (lines : List Line) (seen : List Observation) (new : Core D S R W d w) (along : RiseAlong d o r w old lines seen new) → Run U V lines after seen → answers is_tier_fault lines ≤ own d o r w old lines seen new along + labels d o r w old lines seen new along
       run_faults U V after old [] [] new along run = omega arith
       run_faults U V after old (line ∷ lines) (x ∷ more) new along run =
           let c = step_caused U V run.0 line x run.1 in
@@ -168,7 +169,7 @@ module _ {S R W : Type 0} (o : objects.Ghosts S R W) where
       run_faults U V after old [] (x ∷ more) new along run = absurd along
       run_faults U V after old (line ∷ lines) [] new along run = absurd along
 
-      pub run_waits : (U : Setup) (V after : Whole) (old : Core S R W w) (lines : List Line) (seen : List Observation) (new : Core S R W w) (along : RiseAlong o r w old lines seen new) → Run U V lines after seen → answers is_wait lines ≤ waits o r w old lines seen new along
+      pub run_waits : (U : Setup) (V after : Whole) (old : Core D S R W d w) (lines : List Line) (seen : List Observation) (new : Core D S R W d w) (along : RiseAlong d o r w old lines seen new) → Run U V lines after seen → answers is_wait lines ≤ waits d o r w old lines seen new along
       run_waits U V after old [] [] new along run = omega arith
       run_waits U V after old (line ∷ lines) (x ∷ more) new along run =
           let c = step_caused U V run.0 line x run.1 in
@@ -178,23 +179,23 @@ module _ {S R W : Type 0} (o : objects.Ghosts S R W) where
       run_waits U V after old [] (x ∷ more) new along run = absurd along
       run_waits U V after old (line ∷ lines) [] new along run = absurd along
 
-module _ {S R W : Type 0} (o : objects.Ghosts S R W) (r : reads.Ghosts R) (w : writes.Ghosts W) where
+module _ {D S R W : Type 0} (d : disks.Ghosts D) (o : objects.Ghosts S R W) (r : reads.Ghosts R) (w : writes.Ghosts W) where
   -- ---- steady media
 
-  no_hand : (old new : Core S R W w) (who : ℕ) (e : Event) (rise : Rise) (h : Rises o r w old new who e rise) → IsSteady o r w old → is_of_hand o r w old new who e rise h ≡ false
+  no_hand : (old new : Core D S R W d w) (who : ℕ) (e : Event) (rise : Rise) (h : Rises d o r w old new who e rise) → IsSteady d o r w old → is_of_hand d o r w old new who e rise h ≡ false
   no_hand old new who e rise (Rises.OfHand v l u h) steady = absurd (hand_rose_not o r w old new who v l h steady)
   no_hand old new who e rise Rises.Nothing steady = refl
   no_hand old new who e rise (Rises.OfTier v t h) steady = refl
   no_hand old new who e rise (Rises.OfWaits v l u h) steady = refl
 
-  no_waits : (old new : Core S R W w) (who : ℕ) (e : Event) (rise : Rise) (h : Rises o r w old new who e rise) → IsSteady o r w old → is_of_waits o r w old new who e rise h ≡ false
+  no_waits : (old new : Core D S R W d w) (who : ℕ) (e : Event) (rise : Rise) (h : Rises d o r w old new who e rise) → IsSteady d o r w old → is_of_waits d o r w old new who e rise h ≡ false
   no_waits old new who e rise (Rises.OfWaits v l u h) steady = absurd (hand_waited_not o r w old new who v l h steady)
   no_waits old new who e rise Rises.Nothing steady = refl
   no_waits old new who e rise (Rises.OfTier v t h) steady = refl
   no_waits old new who e rise (Rises.OfHand v l u h) steady = refl
 
   -- no rise passes a test that none passes over steady media
-  none_along : (test : (old new : Core S R W w) (who : ℕ) (e : Event) (rise : Rise) → Rises o r w old new who e rise → Bool) → ((old new : Core S R W w) (who : ℕ) (e : Event) (rise : Rise) (h : Rises o r w old new who e rise) → IsSteady o r w old → test old new who e rise h ≡ false) → (old : Core S R W w) (lines : List Line) (seen : List Observation) (new : Core S R W w) (along : RiseAlong o r w old lines seen new) → IsSteady o r w old → how_many o r w test old lines seen new along ≡ 0
+  none_along : (test : (old new : Core D S R W d w) (who : ℕ) (e : Event) (rise : Rise) → Rises d o r w old new who e rise → Bool) → ((old new : Core D S R W d w) (who : ℕ) (e : Event) (rise : Rise) (h : Rises d o r w old new who e rise) → IsSteady d o r w old → test old new who e rise h ≡ false) → (old : Core D S R W d w) (lines : List Line) (seen : List Observation) (new : Core D S R W d w) (along : RiseAlong d o r w old lines seen new) → IsSteady d o r w old → how_many d o r w test old lines seen new along ≡ 0
   none_along test fails old [] seen new along steady = refl
   none_along test fails old (line ∷ lines) [] new along steady = absurd along
   none_along test fails old (line ∷ lines) (x ∷ more) new along steady =
@@ -202,5 +203,5 @@ module _ {S R W : Type 0} (o : objects.Ghosts S R W) (r : reads.Ghosts R) (w : w
       let rest = none_along test fails along.0 lines more new along.4 (along.3 steady) in
       omega (arith, first, rest)
 
-  pub steady_sums : (old : Core S R W w) (lines : List Line) (seen : List Observation) (new : Core S R W w) (along : RiseAlong o r w old lines seen new) → IsSteady o r w old → (labels o r w old lines seen new along ≡ 0) × (waits o r w old lines seen new along ≡ 0)
-  steady_sums old lines seen new along steady = (none_along (is_of_hand o r w) no_hand old lines seen new along steady, none_along (is_of_waits o r w) no_waits old lines seen new along steady)
+  pub steady_sums : (old : Core D S R W d w) (lines : List Line) (seen : List Observation) (new : Core D S R W d w) (along : RiseAlong d o r w old lines seen new) → IsSteady d o r w old → (labels d o r w old lines seen new along ≡ 0) × (waits d o r w old lines seen new along ≡ 0)
+  steady_sums old lines seen new along steady = (none_along (is_of_hand d o r w) no_hand old lines seen new along steady, none_along (is_of_waits d o r w) no_waits old lines seen new along steady)

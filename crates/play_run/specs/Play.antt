@@ -6,6 +6,7 @@ use Rattle.fs_model.specs.State.{Whole}
 use Rattle.fs_model.specs.Begins.{Begins}
 use Rattle.fs_model.specs.Step.{Observation, Run}
 use Rattle.outside.specs.Streams.{Takes}
+use Rattle.outside.specs.declared.disk.Disk as disks
 use Rattle.outside.specs.declared.media.Media.{Media}
 use Rattle.outside.specs.declared.objects.Objects as objects
 use Rattle.outside.specs.declared.objects.ObjectRead as reads
@@ -36,61 +37,61 @@ Played (c ∷ cs) (l ∷ ls) = Says c l × Played cs ls
 Played [] (l ∷ ls) = ⊥
 Played (c ∷ cs) [] = ⊥
 
-module _ {S R W : Type 0} (o : objects.Ghosts S R W) (r : reads.Ghosts R) (w : writes.Ghosts W) where
+module _ {D S R W : Type 0} (d : disks.Ghosts D) (o : objects.Ghosts S R W) (r : reads.Ghosts R) (w : writes.Ghosts W) where
   -- the line tells one event of the command, in which a fault or a wait has its cause; it is a step from every state that the core stands for
-  pub record Acts (command : Command) (line : Line) (old new : Core S R W w) : Type 0 where
+  pub record Acts (command : Command) (line : Line) (old new : Core D S R W d w) : Type 0 where
     pub says : Says command line
-    pub steps : Steps o r w old new line.actor line.event line.reply
-    pub media : MediaStays o old new
-    pub cause : IsCaused o r w old new line.actor line.event line.reply
-    pub steady : IsSteady o r w old → IsSteady o r w new
+    pub steps : Steps d o r w old new line.actor line.event line.reply
+    pub media : MediaStays d o old new
+    pub cause : IsCaused d o r w old new line.actor line.event line.reply
+    pub steady : IsSteady d o r w old → IsSteady d o r w new
 
   -- ---- runs
 
   -- there are cores from one line to the next, between which a fault or a wait has its cause, whatever they stand for; what is steady stays so
-  abbrev pub CausedAlong : Core S R W w → List Line → Core S R W w → Type 0
+  abbrev pub CausedAlong : Core D S R W d w → List Line → Core D S R W d w → Type 0
   CausedAlong old [] new = new ≡ old
-  CausedAlong old (line ∷ lines) new = (mid : Core S R W w) × IsCaused o r w old mid line.actor line.event line.reply × MediaStays o old mid × (IsSteady o r w old → IsSteady o r w mid) × CausedAlong mid lines new
+  CausedAlong old (line ∷ lines) new = (mid : Core D S R W d w) × IsCaused d o r w old mid line.actor line.event line.reply × MediaStays d o old mid × (IsSteady d o r w old → IsSteady d o r w mid) × CausedAlong mid lines new
 
   -- the lines are a run of the machine to a state that the core stands for then, and each rise in it is that of real counts in that event
-  pub record Ran (U : Setup) (V : Whole) (old : Core S R W w) (lines : List Line) (new : Core S R W w) : Type 0 where
+  pub record Ran (U : Setup) (V : Whole) (old : Core D S R W d w) (lines : List Line) (new : Core D S R W d w) : Type 0 where
     pub after : Whole
     pub seen : List Observation
     pub run : Run U V lines after seen
-    pub rose : RiseAlong o r w old lines seen new
+    pub rose : RiseAlong d o r w old lines seen new
     -- at most as many lines answer a tier's fault as counts of tiers and of labels rose
-    pub faults : answers is_tier_fault lines ≤ own o r w old lines seen new rose + labels o r w old lines seen new rose
+    pub faults : answers is_tier_fault lines ≤ own d o r w old lines seen new rose + labels d o r w old lines seen new rose
     -- at most as many lines answer that the reader isn't ready as readers' waits rose
-    pub not_ready : answers is_wait lines ≤ waits o r w old lines seen new rose
+    pub not_ready : answers is_wait lines ≤ waits d o r w old lines seen new rose
     -- the sum of the tiers' counts rose by one or more for each line in which one of them did, where none came to its last value
-    pub few : NoneLast o new → total o old + own o r w old lines seen new rose ≤ total o new
+    pub few : NoneLast o new → total o old + own d o r w old lines seen new rose ≤ total o new
     -- over steady media no count and no waits of a label's reader or writer rose
-    pub steady : IsSteady o r w old → (labels o r w old lines seen new rose ≡ 0) × (waits o r w old lines seen new rose ≡ 0)
-    pub stands : Stands o r w U new after
+    pub steady : IsSteady d o r w old → (labels d o r w old lines seen new rose ≡ 0) × (waits d o r w old lines seen new rose ≡ 0)
+    pub stands : Stands d o r w U new after
 
   -- where the sum of the tiers' counts is the same at the end, and no label's count or waits rose, no line answers a tier's fault or that the reader isn't ready
   abbrev pub QuietRuns : Type 0
-  QuietRuns = (U : Setup) (V : Whole) (old new : Core S R W w) (lines : List Line) (ran : Ran U V old lines new)
+  QuietRuns = (U : Setup) (V : Whole) (old new : Core D S R W d w) (lines : List Line) (ran : Ran U V old lines new)
       → NoneLast o new → total o new ≡ total o old
-      → labels o r w old lines ran.seen new ran.rose ≡ 0 → waits o r w old lines ran.seen new ran.rose ≡ 0
+      → labels d o r w old lines ran.seen new ran.rose ≡ 0 → waits d o r w old lines ran.seen new ran.rose ≡ 0
       → (answers is_tier_fault lines ≡ 0) × (answers is_wait lines ≡ 0)
 
   -- the lines are of these commands, each once and in order; each fault in them has its cause; and from every state that the core stood for they are a run
-  pub record Lines (commands : List Command) (old : Core S R W w) (lines : List Line) (new : Core S R W w) : Type 0 where
+  pub record Lines (commands : List Command) (old : Core D S R W d w) (lines : List Line) (new : Core D S R W d w) : Type 0 where
     pub played : Played commands lines
     pub caused : CausedAlong old lines new
-    pub ran : (U : Setup) (V : Whole) → Stands o r w U old V → Ran U V old lines new
+    pub ran : (U : Setup) (V : Whole) → Stands d o r w U old V → Ran U V old lines new
 
   -- ---- what the sink took
 
   -- the texts of such lines
-  pub record Tells (commands : List Command) (old new : Core S R W w) (before after : Option (List ℕ)) : Type 0 where
+  pub record Tells (commands : List Command) (old new : Core D S R W d w) (before after : Option (List ℕ)) : Type 0 where
     pub lines : List Line
     pub did : Lines commands old lines new
     pub text : Takes before after (lines_text lines)
 
   -- so it is for the first of the commands, but that the last line may not have been told
-  pub record TellsFront (commands : List Command) (old new : Core S R W w) (before after : Option (List ℕ)) : Type 0 where
+  pub record TellsFront (commands : List Command) (old new : Core D S R W d w) (before after : Option (List ℕ)) : Type 0 where
     pub count : ℕ
     pub lines : List Line
     pub did : Lines (take count commands) old lines new
@@ -99,7 +100,7 @@ module _ {S R W : Type 0} (o : objects.Ghosts S R W) (r : reads.Ghosts R) (w : w
     pub text : Takes before after (lines_text (take told lines))
 
   -- so it is for the first of the commands, but that a front of the text was taken, which has all lines but the last
-  pub record TellsPartly (commands : List Command) (old new : Core S R W w) (before after : Option (List ℕ)) : Type 0 where
+  pub record TellsPartly (commands : List Command) (old new : Core D S R W d w) (before after : Option (List ℕ)) : Type 0 where
     pub count : ℕ
     pub lines : List Line
     pub did : Lines (take count commands) old lines new
@@ -110,38 +111,39 @@ module _ {S R W : Type 0} (o : objects.Ghosts S R W) (r : reads.Ghosts R) (w : w
 
   -- ---- over media
 
-  -- the core has these stores and tiers
-  pub record IsOver (core : Core S R W w) (media : Media S) : Type 0 where
+  -- the core has these areas, stores and tiers
+  pub record IsOver (core : Core D S R W d w) (media : Media D S) : Type 0 where
+    pub areas : core.areas ≡ media.areas
     pub stores : core.stores ≡ media.stores
     pub tiers : map (λ n. n.tiers) core.workers.items ≡ media.tiers.items
 
   -- P holds from a core over the media at the beginning, which over tiers that tell and hold no object stands for every state that a play begins with, to one over those that are given back
-  pub record Between (U : Setup) (media back : Media S) (P : Core S R W w → Core S R W w → Type 0) : Type 0 where
-    pub first : Core S R W w
-    pub last : Core S R W w
+  pub record Between (U : Setup) (media back : Media D S) (P : Core D S R W d w → Core D S R W d w → Type 0) : Type 0 where
+    pub first : Core D S R W d w
+    pub last : Core D S R W d w
     pub opened : IsOver first media
-    pub stands : (V : Whole) → Begins U V → TiersEmpty o media → Stands o r w U first V
-    pub steady : MediaSteady o media → IsSteady o r w first
+    pub stands : (V : Whole) → Begins U V → TiersEmpty o media → Stands d o r w U first V
+    pub steady : MediaSteady o media → IsSteady d o r w first
     pub closed : IsOver last back
     pub holds : P first last
 
   -- ---- steady media
 
   -- there are cores from one line to the next, between which nothing but a tier's own count, of failures or of misses, is the cause of a fault, and nothing waits
-  abbrev pub TiersAlong : Core S R W w → List Line → Core S R W w → Type 0
+  abbrev pub TiersAlong : Core D S R W d w → List Line → Core D S R W d w → Type 0
   TiersAlong old [] new = new ≡ old
-  TiersAlong old (line ∷ lines) new = (mid : Core S R W w) × OnlyTier (TierCounted o old mid) line.reply × MediaStays o old mid × TiersAlong mid lines new
+  TiersAlong old (line ∷ lines) new = (mid : Core D S R W d w) × OnlyTier (TierCounted o old mid) line.reply × MediaStays d o old mid × TiersAlong mid lines new
 
   -- over steady media the lines of a play are such, and none is that the reader isn't ready
   abbrev pub SteadyPlays : Type 0
-  SteadyPlays = (U : Setup) (commands : List Command) (media back : Media S) (before after : Option (List ℕ))
+  SteadyPlays = (U : Setup) (commands : List Command) (media back : Media D S) (before after : Option (List ℕ))
       (play : Between U media back (λ first last. Tells commands first last before after))
       → MediaSteady o media
       → TiersAlong play.first play.holds.lines play.last × (answers is_wait play.holds.lines ≡ 0)
 
   -- where besides the tiers tell and hold no object at the beginning, and the sum of their counts is the same at the end, no line answers a tier's fault
   abbrev pub QuietPlays : Type 0
-  QuietPlays = (U : Setup) (V : Whole) (commands : List Command) (media back : Media S) (before after : Option (List ℕ))
+  QuietPlays = (U : Setup) (V : Whole) (commands : List Command) (media back : Media D S) (before after : Option (List ℕ))
       (play : Between U media back (λ first last. Tells commands first last before after))
       → Begins U V → TiersEmpty o media → MediaSteady o media
       → NoneLastIn o back → media_total o back ≡ media_total o media

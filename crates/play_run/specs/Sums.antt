@@ -7,6 +7,7 @@ use Rattle.fs_model.specs.declared.reply.Reply.{Reply}
 use Rattle.fs_model.specs.declared.reply.Refusal.{Refusal}
 use Rattle.fs_model.specs.Faults.{Rise}
 use Rattle.fs_model.specs.Step.{Observation}
+use Rattle.outside.specs.declared.disk.Disk as disks
 use Rattle.outside.specs.declared.media.Media.{Media}
 use Rattle.outside.specs.declared.objects.Objects as objects
 use Rattle.outside.specs.declared.objects.ObjectRead as reads
@@ -41,61 +42,61 @@ module _ {S R W : Type 0} (o : objects.Ghosts S R W) where
   node_total n = sum_by o.faults n.tiers.items
 
   -- so it is of the tiers of some media
-  abbrev pub media_total : Media S → ℕ
+  abbrev pub media_total : {D : Type 0} → Media D S → ℕ
   media_total m = sum_by (λ v. sum_by o.faults v.items) m.tiers.items
 
   -- no tier's count has come to its last value
-  abbrev pub NoneLastIn : Media S → Type 0
+  abbrev pub NoneLastIn : {D : Type 0} → Media D S → Type 0
   NoneLastIn m = All (λ v. All (λ s. o.faults s < 2 ^ 64 - 1) v.items) m.tiers.items
 
-  module _ {w : writes.Ghosts W} where
+  module _ {D : Type 0} {d : disks.Ghosts D} {w : writes.Ghosts W} where
     -- the sum of the counts of all tiers
-    abbrev pub total : Core S R W w → ℕ
+    abbrev pub total : Core D S R W d w → ℕ
     total core = sum_by node_total core.workers.items
 
     -- no tier's count has come to its last value
-    abbrev pub NoneLast : Core S R W w → Type 0
+    abbrev pub NoneLast : Core D S R W d w → Type 0
     NoneLast core = (i t : ℕ) (n : Node S) (s : S) → slice_get core.workers.items i ≡ Some n → slice_get n.tiers.items t ≡ Some s → o.faults s < 2 ^ 64 - 1
 
-module _ {S R W : Type 0} (o : objects.Ghosts S R W) (r : reads.Ghosts R) (w : writes.Ghosts W) where
+module _ {D S R W : Type 0} (d : disks.Ghosts D) (o : objects.Ghosts S R W) (r : reads.Ghosts R) (w : writes.Ghosts W) where
   -- ---- what rose
 
   -- there are cores from one line to the next, between which the counts rose as observed, no tier's count fell, and what is steady stays so
-  abbrev pub RiseAlong : Core S R W w → List Line → List Observation → Core S R W w → Type 0
+  abbrev pub RiseAlong : Core D S R W d w → List Line → List Observation → Core D S R W d w → Type 0
   RiseAlong old [] [] new = new ≡ old
-  RiseAlong old (line ∷ lines) (seen ∷ more) new = (mid : Core S R W w) × Rises o r w old mid line.actor line.event seen.rise × MediaStays o old mid × (IsSteady o r w old → IsSteady o r w mid) × RiseAlong mid lines more new
+  RiseAlong old (line ∷ lines) (seen ∷ more) new = (mid : Core D S R W d w) × Rises d o r w old mid line.actor line.event seen.rise × MediaStays d o old mid × (IsSteady d o r w old → IsSteady d o r w mid) × RiseAlong mid lines more new
   RiseAlong old [] (seen ∷ more) new = ⊥
   RiseAlong old (line ∷ lines) [] new = ⊥
 
   -- a tier's own count rose, which the tier keeps
-  abbrev pub is_of_tier : (old new : Core S R W w) (who : ℕ) (e : Event) (rise : Rise) → Rises o r w old new who e rise → Bool
+  abbrev pub is_of_tier : (old new : Core D S R W d w) (who : ℕ) (e : Event) (rise : Rise) → Rises d o r w old new who e rise → Bool
   is_of_tier old new who e rise (Rises.OfTier v t h) = true
   is_of_tier old new who e rise h = false
 
   -- the count of a label's reader or writer rose, which is dropped with the label
-  abbrev pub is_of_hand : (old new : Core S R W w) (who : ℕ) (e : Event) (rise : Rise) → Rises o r w old new who e rise → Bool
+  abbrev pub is_of_hand : (old new : Core D S R W d w) (who : ℕ) (e : Event) (rise : Rise) → Rises d o r w old new who e rise → Bool
   is_of_hand old new who e rise (Rises.OfHand v l u h) = true
   is_of_hand old new who e rise h = false
 
   -- the waits of a label's reader rose
-  abbrev pub is_of_waits : (old new : Core S R W w) (who : ℕ) (e : Event) (rise : Rise) → Rises o r w old new who e rise → Bool
+  abbrev pub is_of_waits : (old new : Core D S R W d w) (who : ℕ) (e : Event) (rise : Rise) → Rises d o r w old new who e rise → Bool
   is_of_waits old new who e rise (Rises.OfWaits v l u h) = true
   is_of_waits old new who e rise h = false
 
   -- how many lines' rises pass the test
-  abbrev pub how_many : ((old new : Core S R W w) (who : ℕ) (e : Event) (rise : Rise) → Rises o r w old new who e rise → Bool) → (old : Core S R W w) (lines : List Line) (seen : List Observation) (new : Core S R W w) → RiseAlong old lines seen new → ℕ
+  abbrev pub how_many : ((old new : Core D S R W d w) (who : ℕ) (e : Event) (rise : Rise) → Rises d o r w old new who e rise → Bool) → (old : Core D S R W d w) (lines : List Line) (seen : List Observation) (new : Core D S R W d w) → RiseAlong old lines seen new → ℕ
   how_many test old [] seen new along = 0
   how_many test old (line ∷ lines) [] new along = 0
   how_many test old (line ∷ lines) (seen ∷ more) new along = cond (test old along.0 line.actor line.event seen.rise along.1) 1 0 + how_many test along.0 lines more new along.4
 
   -- how many lines' rises are of a tier's own count
-  abbrev pub own : (old : Core S R W w) (lines : List Line) (seen : List Observation) (new : Core S R W w) → RiseAlong old lines seen new → ℕ
+  abbrev pub own : (old : Core D S R W d w) (lines : List Line) (seen : List Observation) (new : Core D S R W d w) → RiseAlong old lines seen new → ℕ
   own = how_many is_of_tier
 
   -- how many lines' rises are of the count of a label's reader or writer
-  abbrev pub labels : (old : Core S R W w) (lines : List Line) (seen : List Observation) (new : Core S R W w) → RiseAlong old lines seen new → ℕ
+  abbrev pub labels : (old : Core D S R W d w) (lines : List Line) (seen : List Observation) (new : Core D S R W d w) → RiseAlong old lines seen new → ℕ
   labels = how_many is_of_hand
 
   -- how many lines' rises are of the waits of a label's reader
-  abbrev pub waits : (old : Core S R W w) (lines : List Line) (seen : List Observation) (new : Core S R W w) → RiseAlong old lines seen new → ℕ
+  abbrev pub waits : (old : Core D S R W d w) (lines : List Line) (seen : List Observation) (new : Core D S R W d w) → RiseAlong old lines seen new → ℕ
   waits = how_many is_of_waits

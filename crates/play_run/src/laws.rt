@@ -2,21 +2,22 @@
 
 ghost use Rattle.play_run.specs.Play.{QuietPlays, QuietRuns, SteadyPlays};
 
+use outside::disk::Disk;
 use outside::objects::Objects;
 
 /// Where no tier's count and none of a label's rose, no line of a run answers a tier's fault or a wait.
-pub fn quiet_runs<O: Objects>()
-    ensures { QuietRuns O.Objects O.Reader.ObjectRead O.Writer.ObjectWrite }
+pub fn quiet_runs<D: Disk, O: Objects>()
+    ensures { QuietRuns D.Disk O.Objects O.Reader.ObjectRead O.Writer.ObjectWrite }
 {}
 
 /// Over media that tell that they are steady, the cause of each fault in the lines of a play is a tier's own count, of
 /// failures or of misses, and no line is that the reader isn't ready.
-pub fn steady_plays<O: Objects>()
-    ensures { SteadyPlays O.Objects O.Reader.ObjectRead O.Writer.ObjectWrite }
+pub fn steady_plays<D: Disk, O: Objects>()
+    ensures { SteadyPlays D.Disk O.Objects O.Reader.ObjectRead O.Writer.ObjectWrite }
 {}
 
 /// Where such tiers tell and hold no object, and the sum of their counts is the same when they are given back, no line
 /// of the play answers a tier's fault.
-pub fn quiet_plays<O: Objects>()
-    ensures { QuietPlays O.Objects O.Reader.ObjectRead O.Writer.ObjectWrite }
+pub fn quiet_plays<D: Disk, O: Objects>()
+    ensures { QuietPlays D.Disk O.Objects O.Reader.ObjectRead O.Writer.ObjectWrite }
 {}

@@ -22,6 +22,7 @@ use fs_model::numbers::Actor;
 use fs_model::reply::Line;
 use fs_model::setup::Setup;
 use fs_model::stop::Stop;
+use outside::disk::Disk;
 use outside::media::Media;
 use outside::objects::Objects;
 use outside::stream::{Sink, push_all};
@@ -51,9 +52,9 @@ fn event_of(command: &Command) -> Result<Event, AllocError>
 }
 
 /// The line of an event.
-fn answer<O: Objects>(
+fn answer<D: Disk, O: Objects>(
     alloc: Global,
-    core: &mut Core<O, O::Reader, O::Writer>,
+    core: &mut Core<D, O, O::Reader, O::Writer>,
     actor: Actor,
     event: Event,
 ) -> Line
@@ -62,10 +63,10 @@ fn answer<O: Objects>(
     requires spelled { is_spelled event ≡ true }
     ensures event { result.event ≡ event }
     ensures actor { result.actor ≡ actor }
-    ensures steps { Steps O.Objects O.Reader.ObjectRead O.Writer.ObjectWrite core.old core.new result.actor result.event result.reply }
-    ensures media { MediaStays O.Objects core.old core.new }
-    ensures cause { IsCaused O.Objects O.Reader.ObjectRead O.Writer.ObjectWrite core.old core.new result.actor result.event result.reply }
-    ensures steady { IsSteady O.Objects O.Reader.ObjectRead O.Writer.ObjectWrite core.old → IsSteady O.Objects O.Reader.ObjectRead O.Writer.ObjectWrite core.new }
+    ensures steps { Steps D.Disk O.Objects O.Reader.ObjectRead O.Writer.ObjectWrite core.old core.new result.actor result.event result.reply }
+    ensures media { MediaStays D.Disk O.Objects core.old core.new }
+    ensures cause { IsCaused D.Disk O.Objects O.Reader.ObjectRead O.Writer.ObjectWrite core.old core.new result.actor result.event result.reply }
+    ensures steady { IsSteady D.Disk O.Objects O.Reader.ObjectRead O.Writer.ObjectWrite core.old → IsSteady D.Disk O.Objects O.Reader.ObjectRead O.Writer.ObjectWrite core.new }
 {
     let reply = core.step(alloc, actor, &event);
     Line {
@@ -76,16 +77,16 @@ fn answer<O: Objects>(
 }
 
 /// Does one command, and answers its line. After an `Err`, which is want of memory, nothing was done.
-fn act<O: Objects>(
+fn act<D: Disk, O: Objects>(
     alloc: Global,
-    core: &mut Core<O, O::Reader, O::Writer>,
+    core: &mut Core<D, O, O::Reader, O::Writer>,
     command: &Command,
 ) -> Result<Line, Stop>
     requires { is_command command.now ≡ true }
-    ensures ok { IfOk result (λ line. Acts O.Objects O.Reader.ObjectRead O.Writer.ObjectWrite command.now line core.old core.new) }
+    ensures ok { IfOk result (λ line. Acts D.Disk O.Objects O.Reader.ObjectRead O.Writer.ObjectWrite command.now line core.old core.new) }
     ensures err { OnErr result (core.new ≡ core.old) }
     ensures memory { IfErr result (λ why. why ≡ Stop.Memory) }
-    ensures media { MediaStays O.Objects core.old core.new }
+    ensures media { MediaStays D.Disk O.Objects core.old core.new }
 {
     match event_of(command) {
         Ok(event) => Ok(answer(alloc, core, command.actor, event)),
@@ -124,20 +125,20 @@ fn tell<S: Sink>(alloc: Global, line: Line, sink: &mut S) -> Result<(), Stop>
 ///
 /// An `Err` is `WriteFault`, where the sink failed, or want of memory. The sink has then taken a front of the
 /// lines' text, after want of memory whole lines; what the core did is told up to its last event, or all of it.
-fn play_over<O: Objects, S: Sink>(
+fn play_over<D: Disk, O: Objects, S: Sink>(
     alloc: Global,
-    core: &mut Core<O, O::Reader, O::Writer>,
+    core: &mut Core<D, O, O::Reader, O::Writer>,
     script: &Script,
     sink: &mut S,
 ) -> Result<(), Stop>
     requires { list_all is_command script.now ≡ true }
-    ensures ok { OnOk result (Tells O.Objects O.Reader.ObjectRead O.Writer.ObjectWrite script.now core.old core.new (S.taken sink.old) (S.taken sink.new)) }
-    ensures write { result ≡ Err Stop.WriteFault → TellsPartly O.Objects O.Reader.ObjectRead O.Writer.ObjectWrite script.now core.old core.new (S.taken sink.old) (S.taken sink.new) }
-    ensures memory { result ≡ Err Stop.Memory → TellsFront O.Objects O.Reader.ObjectRead O.Writer.ObjectWrite script.now core.old core.new (S.taken sink.old) (S.taken sink.new) }
+    ensures ok { OnOk result (Tells D.Disk O.Objects O.Reader.ObjectRead O.Writer.ObjectWrite script.now core.old core.new (S.taken sink.old) (S.taken sink.new)) }
+    ensures write { result ≡ Err Stop.WriteFault → TellsPartly D.Disk O.Objects O.Reader.ObjectRead O.Writer.ObjectWrite script.now core.old core.new (S.taken sink.old) (S.taken sink.new) }
+    ensures memory { result ≡ Err Stop.Memory → TellsFront D.Disk O.Objects O.Reader.ObjectRead O.Writer.ObjectWrite script.now core.old core.new (S.taken sink.old) (S.taken sink.new) }
     ensures cause { result ≡ Err Stop.WriteFault → Rose (S.faults sink.old) (S.faults sink.new) }
     ensures ends { IfErr result (λ why. (why ≡ Stop.Memory) ⊎ (why ≡ Stop.WriteFault)) }
     ensures later { S.faults sink.old ≤ S.faults sink.new }
-    ensures media { MediaStays O.Objects core.old core.new }
+    ensures media { MediaStays D.Disk O.Objects core.old core.new }
 {
     for command in script.commands() {
         let line = act(alloc, core, command)?;
@@ -152,13 +153,13 @@ fn play_over<O: Objects, S: Sink>(
 /// An `Err` is `WriteFault`, where the sink failed, or want of memory. The sink has then taken a front of the lines'
 /// text, after want of memory whole lines; the media given back are those after these lines, or after one event more.
 /// Where there was no memory to open the cluster, nothing was taken, and the media are as they were.
-pub fn play<O: Objects, S: Sink>(
+pub fn play<D: Disk, O: Objects, S: Sink>(
     alloc: Global,
     setup: &Setup,
     script: &Script,
-    media: Media<O>,
+    media: Media<D, O>,
     sink: &mut S,
-) -> (Result<(), Stop>, Media<O>)
+) -> (Result<(), Stop>, Media<D, O>)
     requires setup { is_setup setup.now ≡ true }
     requires fit { MediaFit setup.now media }
     requires commands { list_all is_command script.now ≡ true }
@@ -166,17 +167,18 @@ pub fn play<O: Objects, S: Sink>(
     // The sink took the lines of the script's events, in which each fault has its cause. Over tiers that tell and hold no
     // object they are a run of the machine, whatever state the play began with, in which each rise is one of real counts;
     // the media given back are those of a core that stands for the state after it.
-    ensures ok { OnOk result.0 (Between O.Objects O.Reader.ObjectRead O.Writer.ObjectWrite setup.now media result.1 (λ first last. Tells O.Objects O.Reader.ObjectRead O.Writer.ObjectWrite script.now first last (S.taken sink.old) (S.taken sink.new))) }
+    ensures ok { OnOk result.0 (Between D.Disk O.Objects O.Reader.ObjectRead O.Writer.ObjectWrite setup.now media result.1 (λ first last. Tells D.Disk O.Objects O.Reader.ObjectRead O.Writer.ObjectWrite script.now first last (S.taken sink.old) (S.taken sink.new))) }
 
     // At a fault of the sink it took a front of such a text, and its count rose.
-    ensures write { result.0 ≡ Err Stop.WriteFault → Between O.Objects O.Reader.ObjectRead O.Writer.ObjectWrite setup.now media result.1 (λ first last. TellsPartly O.Objects O.Reader.ObjectRead O.Writer.ObjectWrite script.now first last (S.taken sink.old) (S.taken sink.new)) }
+    ensures write { result.0 ≡ Err Stop.WriteFault → Between D.Disk O.Objects O.Reader.ObjectRead O.Writer.ObjectWrite setup.now media result.1 (λ first last. TellsPartly D.Disk O.Objects O.Reader.ObjectRead O.Writer.ObjectWrite script.now first last (S.taken sink.old) (S.taken sink.new)) }
     ensures cause { result.0 ≡ Err Stop.WriteFault → Rose (S.faults sink.old) (S.faults sink.new) }
 
     // Where memory runs out nothing began, or it took the lines of the first commands.
-    ensures memory { result.0 ≡ Err Stop.Memory → ((result.1 ≡ media) × (sink.new ≡ sink.old)) ⊎ Between O.Objects O.Reader.ObjectRead O.Writer.ObjectWrite setup.now media result.1 (λ first last. TellsFront O.Objects O.Reader.ObjectRead O.Writer.ObjectWrite script.now first last (S.taken sink.old) (S.taken sink.new)) }
+    ensures memory { result.0 ≡ Err Stop.Memory → ((result.1 ≡ media) × (sink.new ≡ sink.old)) ⊎ Between D.Disk O.Objects O.Reader.ObjectRead O.Writer.ObjectWrite setup.now media result.1 (λ first last. TellsFront D.Disk O.Objects O.Reader.ObjectRead O.Writer.ObjectWrite script.now first last (S.taken sink.old) (S.taken sink.new)) }
 
     ensures ends { IfErr result.0 (λ why. (why ≡ Stop.Memory) ⊎ (why ≡ Stop.WriteFault)) }
     ensures later { S.faults sink.old ≤ S.faults sink.new }
+    ensures areas { result.1.areas ≡ media.areas }
     ensures stores { length result.1.stores.items ≡ length media.stores.items }
     ensures tiers { tier_counts result.1.tiers.items ≡ tier_counts media.tiers.items }
 {

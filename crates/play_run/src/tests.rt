@@ -17,8 +17,9 @@ use crate::play::play;
 use fs_model::items::Items;
 use fs_model::setup::Setup;
 use fs_model::stop::Stop;
+use outside::fused::Fused;
 use outside::media::Media;
-use outside_mem::{MemObjects, MemSink};
+use outside_mem::{MemDisk, MemObjects, MemSink};
 use script_text::read::{ScriptFault, read_script};
 use std::alloc::{AllocError, Global};
 use std::test::Fail;
@@ -67,8 +68,13 @@ fn two(alloc: Global, first: MemObjects) -> Result<Vec<MemObjects>, AllocError>
     Ok(stores)
 }
 
+/// An area in memory that holds nothing.
+fn empty_area(alloc: Global) -> Fused<MemDisk> {
+    Fused::new(MemDisk::new(Vec::new(alloc)))
+}
+
 /// The media for that configuration, with this first tier of worker 1.
-fn media(alloc: Global, first: MemObjects) -> Result<Media<MemObjects>, AllocError>
+fn media(alloc: Global, first: MemObjects) -> Result<Media<MemDisk, MemObjects>, AllocError>
     ensures stores { IfOk result (λ media. length media.stores.items ≡ 2) }
     ensures tiers { IfOk result (λ media. tier_counts media.tiers.items ≡ 2 ∷ 1 ∷ []) }
 {
@@ -76,6 +82,7 @@ fn media(alloc: Global, first: MemObjects) -> Result<Media<MemObjects>, AllocErr
     tiers.push(two(alloc, first)?)?;
     tiers.push(one(alloc)?)?;
     Ok(Media {
+        areas: (empty_area(alloc), empty_area(alloc)),
         stores: two(alloc, MemObjects::new(alloc))?,
         tiers,
     })
@@ -86,7 +93,7 @@ fn media(alloc: Global, first: MemObjects) -> Result<Media<MemObjects>, AllocErr
 struct Outcome {
     end: Result<(), Stop>,
     sink: MemSink,
-    media: Media<MemObjects>,
+    media: Media<MemDisk, MemObjects>,
 }
 
 /// Plays a script over that configuration with areas of so many bytes, with this first tier of worker 1, to this sink.

@@ -12,12 +12,13 @@ use fs_model::numbers::{Actor, WorkerNo};
 use fs_model::path::Path;
 use fs_model::reply::{Refusal, Reply, Which};
 use fs_model::setup::Setup;
+use outside::fused::Fused;
 use outside::media::Media;
-use outside_mem::{MemObjects, MemReader, MemWriter};
+use outside_mem::{MemDisk, MemObjects, MemReader, MemWriter};
 use std::alloc::{AllocError, Global};
 use std::test::Fail;
 
-type MemCore = Core<MemObjects, MemReader, MemWriter>;
+type MemCore = Core<MemDisk, MemObjects, MemReader, MemWriter>;
 
 /// A configuration with blocks of 4 bytes, worker 1 with tiers of 8 and 8 bytes, and worker 2 with one of 8.
 fn setup(alloc: Global) -> Result<Setup, AllocError>
@@ -56,8 +57,14 @@ fn two(alloc: Global) -> Result<Vec<MemObjects>, AllocError>
     Ok(stores)
 }
 
-/// The media for that configuration.
-fn media(alloc: Global) -> Result<Media<MemObjects>, AllocError>
+/// An area in memory that holds this text, with no fuse.
+fn area(alloc: Global, text: &str) -> Result<Fused<MemDisk>, AllocError> {
+    let bytes = Vec::from_slice(alloc, text.as_bytes())?;
+    Ok(Fused::new(MemDisk::new(bytes)))
+}
+
+/// The media for that configuration; its areas hold a text each.
+fn media(alloc: Global) -> Result<Media<MemDisk, MemObjects>, AllocError>
     ensures stores { IfOk result (λ media. length media.stores.items ≡ 1) }
     ensures tiers { IfOk result (λ media. tier_counts media.tiers.items ≡ 2 ∷ 1 ∷ []) }
 {
@@ -65,6 +72,7 @@ fn media(alloc: Global) -> Result<Media<MemObjects>, AllocError>
     tiers.push(two(alloc)?)?;
     tiers.push(one(alloc)?)?;
     Ok(Media {
+        areas: (area(alloc, "first")?, area(alloc, "second")?),
         stores: one(alloc)?,
         tiers,
     })
@@ -212,12 +220,21 @@ fn open(core: &mut MemCore, alloc: Global, name: &str, path: &str) -> Result<u8,
 }
 
 /// How many stores, workers and tiers of worker 1 there are.
-fn counts(media: &Media<MemObjects>) -> (usize, usize, usize) {
+fn counts(media: &Media<MemDisk, MemObjects>) -> (usize, usize, usize) {
     let first = match media.tiers.first() {
         None => 0,
         Some(tiers) => tiers.len(),
     };
     (media.stores.len(), media.tiers.len(), first)
+}
+
+/// What the areas hold.
+fn held_in(media: Media<MemDisk, MemObjects>) -> (Vec<u8>, Vec<u8>) {
+    let (first, second) = media.areas;
+    (
+        first.into_disk().into_bytes(),
+        second.into_disk().into_bytes(),
+    )
 }
 
 #[test]
@@ -368,5 +385,8 @@ fn a_cluster_that_is_closed_gives_its_media_back(rt: HostRuntime) -> Result<(), 
     assert_eq!(rt; made, b'.');
     let media = core.close();
     assert_eq!(rt; counts(&media), (1, 2, 2));
+    let (first, second) = held_in(media);
+    assert_eq!(rt; first.as_slice(), b"first".as_slice());
+    assert_eq!(rt; second.as_slice(), b"second".as_slice());
     Ok(())
 }

@@ -1,10 +1,11 @@
 //! A world in memory that lends its stores and tiers, and takes them back.
 
 ghost use Rattle.std.specs.Prelude.{◌≡◌, [], None, IsTrue, OnOk, length, map, option_map};
+ghost use Rattle.outside.specs.AreaShelf.{KeepsAreas};
 ghost use Rattle.outside.specs.Shelf.{KeepsBut, all_names, are_distinct, name_lists};
 
 use super::{holds, key_of, store_of, write_object};
-use crate::{Failing, MemObjects, MemWorld};
+use crate::{Failing, MemDisk, MemObjects, MemWorld};
 use outside::media::{Media, MediaNames};
 use outside::objects::Objects;
 use outside::world::{Fail, World};
@@ -19,7 +20,7 @@ fn texts_of(alloc: Global, texts: &[&str]) -> Result<Vec<String>, AllocError> {
     Ok(names)
 }
 
-/// These names of stores, and of the tiers of two workers.
+/// A journal's name, these names of stores, and those of the tiers of two workers.
 fn names_of(
     alloc: Global,
     stores: &[&str],
@@ -30,6 +31,7 @@ fn names_of(
     tiers.push(texts_of(alloc, first)?)?;
     tiers.push(texts_of(alloc, second)?)?;
     Ok(MediaNames {
+        journal: String::from_str(alloc, "journal")?,
         stores: texts_of(alloc, stores)?,
         tiers,
     })
@@ -125,6 +127,7 @@ fn lend_and_give_back<W: World>(world: &mut W, names: &MediaNames) -> Result<(),
     requires distinct { IsTrue (are_distinct (all_names (name_lists names.now))) }
     ensures idle { W.lent world.new ≡ None }
     ensures same { OnOk result (KeepsBut [] (W.shelf world.old) (W.shelf world.new)) }
+    ensures same_areas { OnOk result (KeepsAreas (W.areas world.old) (W.areas world.new)) }
 {
     let media = world.assemble(names)?;
     world.give_back(media);
@@ -158,7 +161,7 @@ fn append_stores(text: &mut Vec<u8>, stores: &[MemObjects]) -> Result<(), AllocE
 }
 
 /// What all stores hold, and the tiers of each worker, in their order.
-fn text_of(alloc: Global, media: &Media<MemObjects>) -> Result<Vec<u8>, AllocError> {
+fn text_of(alloc: Global, media: &Media<MemDisk, MemObjects>) -> Result<Vec<u8>, AllocError> {
     let mut text = Vec::new(alloc);
     append_stores(&mut text, &media.stores)?;
     for tiers in &media.tiers {
@@ -168,7 +171,7 @@ fn text_of(alloc: Global, media: &Media<MemObjects>) -> Result<Vec<u8>, AllocErr
 }
 
 /// Whether the lent media hold this, each in its order.
-fn lends<W: World<Store = MemObjects>>(
+fn lends<W: World<Area = MemDisk, Store = MemObjects>>(
     alloc: Global,
     world: &mut W,
     names: &MediaNames,

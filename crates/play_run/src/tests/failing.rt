@@ -2,7 +2,7 @@
 
 use super::{AREA, Outcome, played, script_of, text_in};
 use outside::media::Media;
-use outside_mem::{ByNumber, Failing, MemObjects, MemSink};
+use outside_mem::{ByNumber, Failing, MemDisk, MemObjects, MemSink};
 use std::alloc::{AllocError, Global};
 use std::test::Fail;
 
@@ -73,12 +73,12 @@ pub(super) struct Seen {
 }
 
 /// The first tier of worker 1.
-pub(super) fn first_tier(media: &Media<MemObjects>) -> Option<&MemObjects> {
+pub(super) fn first_tier(media: &Media<MemDisk, MemObjects>) -> Option<&MemObjects> {
     media.tiers.first()?.first()
 }
 
 /// How many calls of the first tier failed, and how many objects it holds.
-fn counts_in(media: &Media<MemObjects>) -> (u64, usize) {
+fn counts_in(media: &Media<MemDisk, MemObjects>) -> (u64, usize) {
     match first_tier(media) {
         None => (0, 0),
         Some(tier) => (tier.faults, tier.objects.len()),

@@ -7,7 +7,7 @@
 use super::{AREA, Outcome, answered, played, script_of};
 use fs_model::stop::Stop;
 use outside::media::Media;
-use outside_mem::{MemObjects, MemSink};
+use outside_mem::{MemDisk, MemObjects, MemSink};
 use script_text::read::ScriptFault;
 use std::alloc::Global;
 use std::test::Fail;
@@ -94,7 +94,7 @@ fn is_whole(told: &str, stopped: bool) -> bool {
 }
 
 /// How many stores, workers and tiers of worker 1 there are.
-fn counts(media: &Media<MemObjects>) -> (usize, usize, usize) {
+fn counts(media: &Media<MemDisk, MemObjects>) -> (usize, usize, usize) {
     let first = match media.tiers.first() {
         None => 0,
         Some(tiers) => tiers.len(),

@@ -4,8 +4,9 @@ use super::failing::{first_tier, some_lines};
 use super::scripts::TWO_BLOCKS;
 use super::{AREA, Outcome, played, script_of};
 use fs_model::stop::Stop;
+use outside::fused::Fused;
 use outside::media::Media;
-use outside_mem::{Failing, MemObject, MemObjects, MemSink};
+use outside_mem::{Failing, MemDisk, MemObject, MemObjects, MemSink};
 use script_text::read::ScriptFault;
 use std::alloc::{AllocError, Global};
 use std::test::Fail;
@@ -121,8 +122,25 @@ fn are_untouched(stores: &[MemObjects], count: usize) -> bool {
     stores.len() == count && stores.iter().all(is_untouched)
 }
 
-/// Whether there are both stores and each tier, of which the first alone was called.
-fn is_whole(media: &Media<MemObjects>) -> bool {
+/// Whether an area has no fuse, was never written to, and holds nothing.
+fn is_empty(area: Fused<MemDisk>) -> bool {
+    let is_free = area.left().is_none();
+    let disk = area.into_disk();
+    is_free && disk.clock() == 0 && disk.bytes().is_empty()
+}
+
+/// Whether both areas are so.
+fn areas_are_empty(media: Media<MemDisk, MemObjects>) -> bool {
+    let Media {
+        areas: (first, second),
+        ..
+    } = media;
+    let is_first = is_empty(first);
+    is_empty(second) && is_first
+}
+
+/// Whether there are both stores and each tier, of which the first tier alone was called.
+fn is_whole(media: &Media<MemDisk, MemObjects>) -> bool {
     let [first, second] = media.tiers.as_slice() else {
         return false;
     };
@@ -171,6 +189,7 @@ fn the_media_come_back_with_the_blocks(rt: HostRuntime) -> Result<(), Fail> {
     assert_eq!(rt; asked(tier), [2, 2, 0]);
     assert_eq!(rt; (tier.changes, tier.faults, tier.misses), (2, 0, 0));
     assert!(rt; holds_both(tier, "abcd", "ef"));
+    assert!(rt; areas_are_empty(outcome.media));
     Ok(())
 }
 
@@ -182,5 +201,6 @@ fn a_script_without_an_event_leaves_all(rt: HostRuntime) -> Result<(), Fail> {
     assert_eq!(rt; outcome.sink.calls, 0);
     assert!(rt; is_whole(&outcome.media));
     assert_eq!(rt; asked_first(&outcome), [0, 0, 0]);
+    assert!(rt; areas_are_empty(outcome.media));
     Ok(())
 }

@@ -1,6 +1,9 @@
 use Rattle.std.proofs.Common.{refl, ap, ◌∙◌, inl, inr, subst}
+use Rattle.outside.specs.AreaShelf.{HoldsAreas, KeepsAreasBut}
 use Rattle.outside.specs.Shelf.{KeepsBut, all_names, under}
 use Rattle.outside.proofs.Returned.{same_then}
+use Rattle.node_main.specs.Ends.{media_names}
+use Rattle.node_main.proofs.Playing.{areas_then}
 use Rattle.node_main.proofs.run.play_script.Goals as goal
 
 pub returns-in-Ok-assemble-clause-done : goal.returns-in-Ok-assemble-clause-done
@@ -8,7 +11,7 @@ returns-in-Ok-assemble-clause-done g c = λ h. record {
   commands = c.args.script.now;
   script = refl;
   lent = c.in-Ok-assemble.media;
-  held = record { shape = rw c.in-Ok.ensures.names at c.in-Ok-assemble.ensures.shape; each = rw c.in-Ok.ensures.names at c.in-Ok-assemble.ensures.told };
+  held = record { held = record { shape = rw c.in-Ok.ensures.names at c.in-Ok-assemble.ensures.shape; each = rw c.in-Ok.ensures.names at c.in-Ok-assemble.ensures.told; areas = subst (λ names. HoldsAreas g.W.Area.Disk.tells g.W.Area.Disk.history (g.W.World.areas c.args.world.now) names.journal c.in-Ok-assemble.media.areas) c.in-Ok.ensures.names c.in-Ok-assemble.ensures.areas }; fresh = c.in-Ok-assemble.ensures.fresh };
   played = rw (c.in-Ok.ensures.setup, c.assemble.ensures.output) at c.play_lent.ensures.done h;
 }
 
@@ -17,7 +20,7 @@ returns-in-Ok-assemble-clause-partly g c = λ h. record {
   commands = c.args.script.now;
   script = refl;
   lent = c.in-Ok-assemble.media;
-  held = record { shape = rw c.in-Ok.ensures.names at c.in-Ok-assemble.ensures.shape; each = rw c.in-Ok.ensures.names at c.in-Ok-assemble.ensures.told };
+  held = record { held = record { shape = rw c.in-Ok.ensures.names at c.in-Ok-assemble.ensures.shape; each = rw c.in-Ok.ensures.names at c.in-Ok-assemble.ensures.told; areas = subst (λ names. HoldsAreas g.W.Area.Disk.tells g.W.Area.Disk.history (g.W.World.areas c.args.world.now) names.journal c.in-Ok-assemble.media.areas) c.in-Ok.ensures.names c.in-Ok-assemble.ensures.areas }; fresh = c.in-Ok-assemble.ensures.fresh };
   played = rw (c.in-Ok.ensures.setup, c.assemble.ensures.output) at c.play_lent.ensures.partly h;
 }
 
@@ -25,13 +28,14 @@ pub returns-in-Ok-assemble-clause-memory : goal.returns-in-Ok-assemble-clause-me
 returns-in-Ok-assemble-clause-memory g c = λ h.
     let shape = rw c.in-Ok.ensures.names at c.in-Ok-assemble.ensures.shape in
     let told = rw c.in-Ok.ensures.names at c.in-Ok-assemble.ensures.told in
+    let areas = subst (λ names. HoldsAreas g.W.Area.Disk.tells g.W.Area.Disk.history (g.W.World.areas c.args.world.now) names.journal c.in-Ok-assemble.media.areas) c.in-Ok.ensures.names c.in-Ok-assemble.ensures.areas in
     elim (c.play_lent.ensures.memory h) [
-      | inl same ↦ inl (same.0 ∙ ap (λ out. g.W.Out.Sink.taken out) c.assemble.ensures.output, inr (c.in-Ok-assemble.media, record { shape = shape; each = told }, same.1))
+      | inl same ↦ inl (same.0 ∙ ap (λ out. g.W.Out.Sink.taken out) c.assemble.ensures.output, inr (c.in-Ok-assemble.media, record { held = record { shape = shape; each = told; areas = areas }; fresh = c.in-Ok-assemble.ensures.fresh }, same.1))
       | inr front ↦ inr (record {
         commands = c.args.script.now;
         script = refl;
         lent = c.in-Ok-assemble.media;
-        held = record { shape = shape; each = told };
+        held = record { held = record { shape = shape; each = told; areas = areas }; fresh = c.in-Ok-assemble.ensures.fresh };
         played = rw (c.in-Ok.ensures.setup, c.assemble.ensures.output) at front;
       })
     ]
@@ -40,3 +44,8 @@ pub returns-in-Ok-assemble-clause-others : goal.returns-in-Ok-assemble-clause-ot
 returns-in-Ok-assemble-clause-others g c = λ name other.
     let first = subst (λ names. KeepsBut (all_names names) (g.W.World.shelf c.args.world.now) (g.W.World.shelf c.assemble.new.self)) c.in-Ok.ensures.names c.in-Ok-assemble.ensures.others in
     same_then (under (g.W.World.shelf c.args.world.now) name) (under (g.W.World.shelf c.assemble.new.self) name) (under (g.W.World.shelf c.play_lent.new.world) name) (first name other) (c.play_lent.ensures.others name other)
+
+pub returns-in-Ok-assemble-clause-areas_others : goal.returns-in-Ok-assemble-clause-areas_others
+returns-in-Ok-assemble-clause-areas_others g c =
+    let first = subst (λ names. KeepsAreasBut names.journal (g.W.World.areas c.args.world.now) (g.W.World.areas c.assemble.new.self)) c.in-Ok.ensures.names c.in-Ok-assemble.ensures.areas_others in
+    areas_then media_names.journal (g.W.World.areas c.args.world.now) (g.W.World.areas c.assemble.new.self) (g.W.World.areas c.play_lent.new.world) first c.play_lent.ensures.areas_others

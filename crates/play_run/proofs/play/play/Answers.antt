@@ -7,10 +7,10 @@ pub returns-in-Ok-clause-ok : goal.returns-in-Ok-clause-ok
 returns-in-Ok-clause-ok g c = if_ok c.play_over-played.result _ _ (λ told. record {
   first = c.in-Ok.core;
   last = c.play_over-played.new.core;
-  opened = record { stores = c.in-Ok.ensures.stores; tiers = c.in-Ok.ensures.tiers };
+  opened = record { areas = c.in-Ok.ensures.areas; stores = c.in-Ok.ensures.stores; tiers = c.in-Ok.ensures.tiers };
   stands = c.in-Ok.ensures.stands;
   steady = c.in-Ok.ensures.steady;
-  closed = record { stores = sym c.close.ensures.stores; tiers = sym c.close.ensures.tiers };
+  closed = record { areas = sym c.close.ensures.areas; stores = sym c.close.ensures.stores; tiers = sym c.close.ensures.tiers };
   holds = told;
 }) c.play_over-played.ensures.ok
 
@@ -18,10 +18,10 @@ pub returns-in-Ok-clause-write : goal.returns-in-Ok-clause-write
 returns-in-Ok-clause-write g c = λ h. record {
   first = c.in-Ok.core;
   last = c.play_over-played.new.core;
-  opened = record { stores = c.in-Ok.ensures.stores; tiers = c.in-Ok.ensures.tiers };
+  opened = record { areas = c.in-Ok.ensures.areas; stores = c.in-Ok.ensures.stores; tiers = c.in-Ok.ensures.tiers };
   stands = c.in-Ok.ensures.stands;
   steady = c.in-Ok.ensures.steady;
-  closed = record { stores = sym c.close.ensures.stores; tiers = sym c.close.ensures.tiers };
+  closed = record { areas = sym c.close.ensures.areas; stores = sym c.close.ensures.stores; tiers = sym c.close.ensures.tiers };
   holds = c.play_over-played.ensures.write h;
 }
 
@@ -29,10 +29,10 @@ pub returns-in-Ok-clause-memory : goal.returns-in-Ok-clause-memory
 returns-in-Ok-clause-memory g c = λ h. inr (record {
   first = c.in-Ok.core;
   last = c.play_over-played.new.core;
-  opened = record { stores = c.in-Ok.ensures.stores; tiers = c.in-Ok.ensures.tiers };
+  opened = record { areas = c.in-Ok.ensures.areas; stores = c.in-Ok.ensures.stores; tiers = c.in-Ok.ensures.tiers };
   stands = c.in-Ok.ensures.stands;
   steady = c.in-Ok.ensures.steady;
-  closed = record { stores = sym c.close.ensures.stores; tiers = sym c.close.ensures.tiers };
+  closed = record { areas = sym c.close.ensures.areas; stores = sym c.close.ensures.stores; tiers = sym c.close.ensures.tiers };
   holds = c.play_over-played.ensures.memory h;
 })
 
