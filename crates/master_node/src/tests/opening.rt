@@ -3,6 +3,8 @@
 use super::{FIRST, SECOND, change, checkpoint, has_bytes, has_names, mkdir, open, opened};
 use crate::master::Master;
 use fs_model::stop::Stop;
+use journal_disk::AppendFault;
+use journal_entry::entry::Entry;
 use outside_mem::MemDisk;
 use std::alloc::Global;
 use std::process::Abort;
@@ -106,4 +108,76 @@ fn a_gate_is_open_or_closed(rt: HostRuntime) -> Result<(), Fail> {
     // An area that isn't open is written anew.
     finds(&rt, alloc, &changed(alloc, 0, 0)?, &[])?;
     finds(&rt, alloc, cut(FIRST, 9), &[])
+}
+
+/// The first area with so many more entries `mkdir /a`, which mean nothing.
+fn longer(alloc: Global, count: usize) -> Result<Vec<u8>, Fail> {
+    let entry = FIRST.get(54..64).unwrap_or(b"".as_slice());
+    let mut area = Vec::from_slice(alloc, cut(FIRST, 64))?;
+    for _ in 0..count {
+        area.extend_from_slice(entry)?;
+    }
+    area.push(0)?;
+    Ok(area)
+}
+
+#[test]
+fn an_area_beyond_its_limit_takes_no_more(rt: HostRuntime) -> Result<(), Fail> {
+    let alloc = rt.alloc();
+    let mut master = opened(alloc, &longer(alloc, 500)?, b"")?;
+    has_names(&rt, alloc, &master, &["a"])?;
+    let entry = mkdir(alloc, "/b")?;
+    assert_eq!(rt; change(&rt, &mut master, &entry), Err(AppendFault::Full));
+    has_names(&rt, alloc, &master, &["a"])?;
+    // A checkpoint is short again.
+    assert_eq!(rt; checkpoint(&rt, alloc, &mut master), Ok(()));
+    assert_eq!(rt; change(&rt, &mut master, &entry), Ok(()));
+    has_names(&rt, alloc, &master, &["a", "b"])
+}
+
+/// Journals an entry as often as this.
+fn change_often(
+    rt: &impl Abort,
+    master: &mut Master<MemDisk>,
+    entry: &Entry,
+    count: usize,
+) -> Result<(), Fail> {
+    for _ in 0..count {
+        assert_eq!(rt; change(rt, master, entry), Ok(()));
+    }
+    Ok(())
+}
+
+#[test]
+fn an_area_is_filled_to_its_limit(rt: HostRuntime) -> Result<(), Fail> {
+    let alloc = rt.alloc();
+    let mut master = opened(alloc, FIRST, b"")?;
+    let entry = mkdir(alloc, "/b")?;
+    // Each takes ten bytes, from place 64 on, with the closed gate within 4,096 bytes.
+    assert!(rt; !master.lacks_room(9));
+    change_often(&rt, &mut master, &entry, 403)?;
+    assert!(rt; master.lacks_room(9));
+    assert_eq!(rt; change(&rt, &mut master, &entry), Err(AppendFault::Full));
+    Ok(())
+}
+
+/// The first area with the last generation.
+fn last_generation(alloc: Global) -> Result<Vec<u8>, Fail> {
+    let mut area = Vec::from_slice(alloc, FIRST)?;
+    for place in 1..9 {
+        if let Some(at) = area.get_mut(place) {
+            *at = 255;
+        }
+    }
+    Ok(area)
+}
+
+#[test]
+fn the_last_generation_has_no_next(rt: HostRuntime) -> Result<(), Fail> {
+    let alloc = rt.alloc();
+    let mut master = opened(alloc, &last_generation(alloc)?, SECOND)?;
+    assert_eq!(rt; checkpoint(&rt, alloc, &mut master), Err(AppendFault::Full));
+    let entry = mkdir(alloc, "/b")?;
+    assert_eq!(rt; change(&rt, &mut master, &entry), Ok(()));
+    has_names(&rt, alloc, &master, &["a", "b"])
 }
