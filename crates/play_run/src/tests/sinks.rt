@@ -132,9 +132,11 @@ fn is_empty(area: Fused<MemDisk>) -> bool {
 /// Whether both areas are so.
 fn areas_are_empty(media: Media<MemDisk, MemObjects>) -> bool {
     let Media {
-        areas: (first, second),
-        ..
+        areas,
+        stores: _stores,
+        tiers: _tiers,
     } = media;
+    let (first, second) = areas;
     let is_first = is_empty(first);
     is_empty(second) && is_first
 }
