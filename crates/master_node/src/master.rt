@@ -166,6 +166,7 @@ impl<D: Disk> Master<D> {
         ensures burnt { OnOk result (self.new.journal.here.fuse ≡ burnt 4 self.old.journal.here.fuse) }
         ensures enough { OnOk result (IsBelow self.old.journal.here.fuse 4 → ⊥) }
         ensures failed { IsErrOf result Failed → HadCause 4 D.Disk self.old.journal self.new.journal × HasFailed self.old.journal self.new.journal }
+        ensures within { OnOk result (self.old.journal.gate + 2 + length (entry_text entry.now) ≤ self.old.journal.limit) }
         ensures full { IsErrOf result Full → self.old.journal.limit < self.old.journal.gate + 2 + length (entry_text entry.now) }
         ensures full_stays { IsErrOf result Full → StaysAs D.Disk self.old.journal self.new.journal }
         ensures memory_stays { IsErrOf result Memory → StaysAs D.Disk self.old.journal self.new.journal }

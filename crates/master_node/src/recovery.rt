@@ -140,6 +140,7 @@ fn names_over<D: Disk>(
     ensures kept { IfOk result (λ n. IsKept D.Disk (record { journal = journal.new; kept = n })) }
     ensures closed { IfErr result (λ why. (a b : Fusing D) → IsRecovered D.Disk a b setup.now.area journal.old entries.now → IsClosed D.Disk setup.now a b (fused_0 journal.new) (fused_1 journal.new) why) }
     ensures limit { journal.new.limit ≡ journal.old.limit }
+    ensures unfused { journal.new.here.fuse ≡ None }
 {
     if journal.is_fresh() {
         match begin(alloc, setup, journal) {
@@ -208,6 +209,7 @@ impl<D: Disk> Master<D> {
         ensures kept { OnOk result (IsKept D.Disk self.new) }
         ensures closed { IfErr result (λ why. IsClosed D.Disk setup.now (fused_0 self.old.journal) (fused_1 self.old.journal) (fused_0 self.new.journal) (fused_1 self.new.journal) why) }
         ensures stopped { OnErr result (self.new.journal.failed ≡ true) }
+        ensures unfused { self.new.journal.here.fuse ≡ None }
         ensures names { OnErr result (self.new.kept ≡ self.old.kept) }
         ensures limit { self.new.journal.limit ≡ self.old.journal.limit }
     {
