@@ -81,9 +81,9 @@ sizes_are (t ∷ tiers) = ap (λ l. length t ∷ l) (sizes_are tiers)
 
 module _ {S : Type 0} where
   -- the media fit the books that begin
-  pub books_fit : {D : Type 0} (U : Setup) (m : Media D S) (books : List BookView) → books ≡ map fresh_book U.tiers → MediaFit U m → FitBooks books m.tiers.items
-  books_fit U m books is f = record {
-    sizes_fit = f.tiers_fit ∙ sym (sizes_are U.tiers) ∙ ap (map (λ (x : BookView). length x.sizes)) (sym is);
+  pub books_fit : (U : Setup) (tiers : Vec (Vec S)) (books : List BookView) → books ≡ map fresh_book U.tiers → tier_counts tiers.items ≡ map (λ (sizes : List ℕ). length sizes) U.tiers → FitBooks books tiers.items
+  books_fit U tiers books is f = record {
+    sizes_fit = f ∙ sym (sizes_are U.tiers) ∙ ap (map (λ (x : BookView). length x.sizes)) (sym is);
     unreserved = subst (All IsUnreserved) (sym is) (all_unreserved U.tiers);
   }
 

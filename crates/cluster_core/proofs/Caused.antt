@@ -6,8 +6,8 @@ use Rattle.fs_model.specs.declared.event.Fill.{Fill}
 use Rattle.fs_model.specs.declared.reply.Reply.{Reply}
 use Rattle.fs_model.specs.declared.reply.Refusal.{Refusal}
 use Rattle.fs_model.specs.declared.path.Path.{Path}
-use Rattle.fs_model.specs.Lookups.{Walk, find_node, walk_above, walk_nodes}
-use Rattle.fs_model.specs.State.{NodeRow}
+use Rattle.fs_model.specs.Lookups.{Walk, has_node, walk_above, walk_nodes}
+use Rattle.fs_model.specs.State.{NodeRow, Names}
 use Rattle.fs_model.specs.Tests.{walk_fault, ◌only_if◌}
 use Rattle.fs_model.specs.Words.{block_count, first, path_len, ◌when◌}
 use Rattle.outside.specs.Keys.{KeyNames}
@@ -16,18 +16,20 @@ use Rattle.outside.specs.declared.objects.Objects as objects
 use Rattle.outside.specs.declared.objects.ObjectRead as reads
 use Rattle.outside.specs.declared.objects.ObjectWrite as writes
 use Rattle.tier_book.specs.Rows.{fitting, room_numbered}
-use Rattle.cluster_core.specs.Causes.{OnlyTier, NodeCounted, TierCounted, UnderRose, IsCaused}
+use Rattle.cluster_core.specs.Causes.{JournalCaused, OnlyFrom, OnlyTier, NodeCounted, TierCounted, UnderRose, IsCaused}
 use Rattle.cluster_core.specs.Committed.{closed_writer}
 use Rattle.cluster_core.specs.Goes.{AtLabel, HandRose, HandWaited}
 use Rattle.cluster_core.specs.HandChanges.{AddsHand, EndsHand}
 use Rattle.cluster_core.specs.Media.{TiersStay, MediaStays}
-use Rattle.cluster_core.specs.Names.{NamesView, is_full, is_numbered_out, is_short, place_test}
+use Rattle.master_state.specs.Places.{is_full, is_numbered_out, place_test}
+use Rattle.master_node.specs.Mastering.{Mastering}
+use Rattle.cluster_core.specs.Names.{is_short, stop_test}
 use Rattle.cluster_core.specs.Opened.{FailsNode}
 use Rattle.cluster_core.specs.Polls.{reply_of, Waited, Lost, SourcePolls, PollOf, HandPolls}
 use Rattle.cluster_core.specs.Putting.{put_reply, DidPut, DidIn}
 use Rattle.cluster_core.specs.Seeks.{HandSeeks, SeeksOf, FailsRow, copy_at, found_reply}
 use Rattle.cluster_core.specs.Tiers.{At, ChangesAt, Counts, IsFaultOrCrossed, IsFaultOrShort}
-use Rattle.cluster_core.specs.Tests.{Circumstance, create_test, done_test, file_there, open_test, passes_file}
+use Rattle.cluster_core.specs.Tests.{Circumstance, mkdir_test, create_test, done_test, file_there, open_test, passes_file}
 use Rattle.cluster_core.specs.Writers.{Loses}
 use Rattle.cluster_core.specs.declared.cluster.Core.{Core}
 use Rattle.cluster_core.specs.declared.hand.Hand.{Hand}
@@ -48,12 +50,12 @@ use Rattle.cluster_core.proofs.StreamsGo.{at_set, there_is}
 -- ---- replies
 
 -- another P will do where it follows
-only_more : {P Q : ℕ → Type 0} (reply : Reply) → ((v : ℕ) → P v → Q v) → OnlyTier P reply → OnlyTier Q reply
-only_more (Reply.Refused (Refusal.TierFault v)) gives h = gives v h
-only_more (Reply.Refused (Refusal.UnderFault s)) gives h = absurd h
-only_more (Reply.Refused Refusal.JournalFault) gives h = absurd h
-only_more Reply.NotReady gives h = absurd h
-only_more reply gives h = tt
+only_more : {P Q : ℕ → Type 0} {J K : Type 0} (reply : Reply) → ((v : ℕ) → P v → Q v) → (J → K) → OnlyFrom P J reply → OnlyFrom Q K reply
+only_more (Reply.Refused (Refusal.TierFault v)) gives more h = gives v h
+only_more (Reply.Refused (Refusal.UnderFault s)) gives more h = absurd h
+only_more (Reply.Refused Refusal.JournalFault) gives more h = more h
+only_more Reply.NotReady gives more h = absurd h
+only_more reply gives more h = tt
 
 -- no device gave the answer
 abbrev IsCalm : Reply → Type 0
@@ -76,33 +78,46 @@ walk_calm (Walk.Found n) = tt
 walk_calm Walk.Absent = tt
 walk_calm Walk.Blocked = tt
 
-place_calm : (names : NamesView) (p : Path) → IfSome (place_test names p) IsCalm
-place_calm names p = first_calm (walk_fault (walk_above names.nodes p)) _ (walk_calm (walk_above names.nodes p)) (first_calm _ [] (when_calm _ (is_some (find_node names.nodes p)) tt) tt)
+place_calm : (N : Names) (p : Path) → IfSome (place_test N p) IsCalm
+place_calm N p = first_calm (walk_fault (walk_above N.nodes p)) _ (walk_calm (walk_above N.nodes p)) (first_calm _ [] (when_calm _ (has_node N p) tt) tt)
 
-pub create_calm : (area : ℕ) (names : NamesView) (c : Circumstance) (p : Path) → IfSome (create_test area names c p) IsCalm
-create_calm area names c p =
-    first_calm _ _ (when_calm _ c.taken tt)
-    (first_calm (place_test names p) _ (place_calm names p)
-    (first_calm _ _ (when_calm _ (not (nat_eq c.worker 0) && not c.configured) tt)
-    (first_calm _ _ (when_calm _ (is_full names) tt)
-    (first_calm _ _ (when_calm _ (nat_le 64 c.labels) tt)
-    (first_calm _ _ (when_calm _ (is_numbered_out names) tt)
-    (first_calm _ _ (when_calm _ (is_short names area (15 + path_len p)) tt)
-    (first_calm _ [] (only_calm _ (not (nat_eq c.worker 0)) (when_calm _ (not c.live) tt)) tt)))))))
+module _ {D : Type 0} (m : Mastering D) where
+  stop_calm : IfSome (stop_test m) IsCalm
+  stop_calm = when_calm _ m.journal.failed tt
 
-done_calm : (names : NamesView) (p : Path) → IfSome (done_test names p) IsCalm
-done_calm names p =
-    first_calm (walk_fault (walk_nodes names.nodes p)) _ (walk_calm (walk_nodes names.nodes p))
-    (first_calm _ _ (when_calm _ (is_none (file_there names p)) tt)
-    (first_calm _ [] (when_calm _ (passes_file (λ f. not f.done) (file_there names p)) tt) tt))
+  pub mkdir_calm : (p : Path) → IfSome (mkdir_test m p) IsCalm
+  mkdir_calm p =
+      first_calm (stop_test m) _ stop_calm
+      (first_calm (place_test m.kept.names p) _ (place_calm m.kept.names p)
+      (first_calm _ _ (when_calm _ (is_full m.kept.names) tt)
+      (first_calm _ [] (when_calm _ (is_short m (7 + path_len p)) tt) tt)))
 
-pub open_calm : (bs : ℕ) (names : NamesView) (c : Circumstance) (p : Path) → IfSome (open_test bs names c p) IsCalm
-open_calm bs names c p =
-    first_calm _ _ (when_calm _ c.taken tt)
-    (first_calm (done_test names p) _ (done_calm names p)
-    (first_calm _ _ (when_calm _ (not (nat_eq c.worker 0) && not c.configured) tt)
-    (first_calm _ _ (when_calm _ (nat_le 64 c.labels) tt)
-    (first_calm _ [] (when_calm _ (passes_file (λ f. nat_lt 65536 (block_count f.len bs)) (file_there names p)) tt) tt))))
+  pub create_calm : (c : Circumstance) (p : Path) → IfSome (create_test m c p) IsCalm
+  create_calm c p =
+      first_calm _ _ (when_calm _ c.taken tt)
+      (first_calm (stop_test m) _ stop_calm
+      (first_calm (place_test m.kept.names p) _ (place_calm m.kept.names p)
+      (first_calm _ _ (when_calm _ (not (nat_eq c.worker 0) && not c.configured) tt)
+      (first_calm _ _ (when_calm _ (is_full m.kept.names) tt)
+      (first_calm _ _ (when_calm _ (nat_le 64 c.labels) tt)
+      (first_calm _ _ (when_calm _ (is_numbered_out m.kept.names) tt)
+      (first_calm _ _ (when_calm _ (is_short m (15 + path_len p)) tt)
+      (first_calm _ [] (only_calm _ (not (nat_eq c.worker 0)) (when_calm _ (not c.live) tt)) tt))))))))
+
+  done_calm : (p : Path) → IfSome (done_test m p) IsCalm
+  done_calm p =
+      first_calm (walk_fault (walk_nodes m.kept.names.nodes p)) _ (walk_calm (walk_nodes m.kept.names.nodes p))
+      (first_calm _ _ (when_calm _ (is_none (file_there m p)) tt)
+      (first_calm _ [] (when_calm _ (passes_file (λ f. not f.done) (file_there m p)) tt) tt))
+
+  pub open_calm : (bs : ℕ) (c : Circumstance) (p : Path) → IfSome (open_test bs m c p) IsCalm
+  open_calm bs c p =
+      first_calm _ _ (when_calm _ c.taken tt)
+      (first_calm (stop_test m) _ stop_calm
+      (first_calm (done_test m p) _ (done_calm p)
+      (first_calm _ _ (when_calm _ (not (nat_eq c.worker 0) && not c.configured) tt)
+      (first_calm _ _ (when_calm _ (nat_le 64 c.labels) tt)
+      (first_calm _ [] (when_calm _ (passes_file (λ f. nat_lt 65536 (block_count f.len bs)) (file_there m p)) tt) tt)))))
 
 -- ---- tiers
 
@@ -172,21 +187,25 @@ module _ {S R W : Type 0} (o : objects.Ghosts S R W) where
 -- ---- events
 
 module _ {D S R W : Type 0} {d : disks.Ghosts D} (o : objects.Ghosts S R W) (r : reads.Ghosts R) (w : writes.Ghosts W) where
-  -- an event that can only answer the fault of a tier
+  -- an event that can only answer the fault of a tier or of the journal
+  pub caused_from : (old new : Core D S R W d w) (who : ℕ) (e : Event) (reply : Reply) → OnlyFrom (TierCounted o old new) (JournalCaused d old.master new.master e) reply → IsCaused d o r w old new who e reply
+  caused_from old new who e (Reply.Refused (Refusal.TierFault v)) h = inl h
+  caused_from old new who e (Reply.Refused (Refusal.UnderFault s)) h = absurd h
+  caused_from old new who e (Reply.Refused Refusal.JournalFault) h = h
+  caused_from old new who e Reply.NotReady h = absurd h
+  caused_from old new who e reply h = tt
+
+  -- one that can only answer the fault of a tier
   caused_by : (old new : Core D S R W d w) (who : ℕ) (e : Event) (reply : Reply) → OnlyTier (TierCounted o old new) reply → IsCaused d o r w old new who e reply
-  caused_by old new who e (Reply.Refused (Refusal.TierFault v)) h = inl h
-  caused_by old new who e (Reply.Refused (Refusal.UnderFault s)) h = absurd h
-  caused_by old new who e (Reply.Refused Refusal.JournalFault) h = absurd h
-  caused_by old new who e Reply.NotReady h = absurd h
-  caused_by old new who e reply h = tt
+  caused_by old new who e reply h = caused_from old new who e reply (only_more reply (λ v k. k) (λ never. absurd never) h)
 
   -- a refusal by a test whose refusals no device gave
   pub refused_caused : (old new : Core D S R W d w) (who : ℕ) (e : Event) (t : Option Reply) (why : Refusal) → IfSome t IsCalm → t ≡ Some (Reply.Refused why) → IsCaused d o r w old new who e (Reply.Refused why)
-  refused_caused old new who e t why calm is = caused_by old new who e (Reply.Refused why) (only_more (Reply.Refused why) (λ v h. absurd h) (subst (λ q. IfSome q IsCalm) is calm))
+  refused_caused old new who e t why calm is = caused_by old new who e (Reply.Refused why) (only_more (Reply.Refused why) (λ v h. absurd h) (λ never. never) (subst (λ q. IfSome q IsCalm) is calm))
 
   -- so it is after a hand was taken out, and before it is put back
   caused_within : (a b c z : Core D S R W d w) (who : ℕ) (e : Event) (reply : Reply) → b.workers ≡ a.workers → z.workers ≡ c.workers → OnlyTier (TierCounted o b c) reply → IsCaused d o r w a z who e reply
-  caused_within a b c z who e reply before after h = caused_by a z who e reply (only_more reply (λ v. counted_within o a b c z v before after) h)
+  caused_within a b c z who e reply before after h = caused_by a z who e reply (only_more reply (λ v. counted_within o a b c z v before after) (λ never. never) h)
 
   -- a source was sought
   pub next_caused : (a b c z : Core D S R W d w) (who : ℕ) (e : Event) → b.workers ≡ a.workers → z.workers ≡ c.workers → (rows : List NodeRow) (bs : ℕ) (h k : Hand R W) (gave : Found) → HandSeeks o r rows bs b.workers.items c.workers.items h k gave → (reply : Reply) → reply ≡ found_reply gave → IsCaused d o r w a z who e reply

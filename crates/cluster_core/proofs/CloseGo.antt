@@ -25,6 +25,7 @@ use Rattle.outside.specs.declared.objects.Objects as objects
 use Rattle.outside.specs.declared.objects.ObjectRead as reads
 use Rattle.outside.specs.declared.objects.ObjectWrite as writes
 use Rattle.tier_book.specs.Rows.{room_numbered}
+use Rattle.cluster_core.proofs.Named.{serves_none}
 use Rattle.cluster_core.specs.Tiers.{ChangesAt}
 use Rattle.cluster_core.specs.LabelsView.{hand_in}
 use Rattle.cluster_core.specs.HandChanges.{EndsHand, KeepsHands}
@@ -72,7 +73,7 @@ module _ {D S R W : Type 0} {d : disks.Ghosts D} (o : objects.Ghosts S R W) (r :
   -- ---- a stream
 
   module _ (x : Stream R) (workers : new.workers ≡ old.workers) (hands : ChangesAt old.hands.items new.hands.items i (EndsHand l (Hand.Reading x))) (U : Setup) (V : Whole) (s : Stands d o r w U old V) where
-    close_reading : (m : machine.Stream) → hand_at (hands_of V (suc i)) l ≡ Some (machine.Hand.Reading m) → StreamFits r s.known old.names.next_id old.block m x → Goes d o r w U old new V (suc i) (Event.Close l) Reply.Done
+    close_reading : (m : machine.Stream) → hand_at (hands_of V (suc i)) l ≡ Some (machine.Hand.Reading m) → StreamFits r s.known old.master.kept.names.next_id old.block m x → Goes d o r w U old new V (suc i) (Event.Close l) Reply.Done
     close_reading m at fits =
         let H = hands_of V (suc i) in
         let B = release (suc i) l V.body in
@@ -82,11 +83,11 @@ module _ {D S R W : Type 0} {d : disks.Ghosts D} (o : objects.Ghosts S R W) (r :
           after = after;
           rise = no_rise;
           made = None;
-          stands = stands_by o r w U new after s.known old.block old.area old.names old.workers.items new.hands.items rest.block rest.area rest.names (ap (λ v. v.items) workers) refl (record {
+          stands = stands_by o r w U new after s.known old.block old.master.journal.limit old.master old.workers.items new.hands.items rest.block (ap (λ k. k.journal.limit) rest.master) rest.master (ap (λ v. v.items) workers) refl (record {
             setup = s.setup;
-            named = record { nodes = s.names.nodes; gate = s.names.gate; next_id = s.names.next_id; unlocked = s.names.unlocked; up = s.names.up; unfused = s.names.unfused };
+            named = record { names = s.names.names; gate = s.names.gate; generation = s.names.generation; fuse = s.names.fuse; down = s.names.down; unlocked = s.names.unlocked };
             workers = record { rows = s.workers.rows; registrations = s.workers.registrations; first = s.workers.first };
-            hands = hands_ended r w s.known s.known old.workers.items old.workers.items old.names.next_id old.names.next_id old.block i l (leaves_all (suc i, l) s.known old.workers.items old.names.next_id) V.hands old.hands.items new.hands.items s.hands within (Hand.Reading x) (machine.Hand.Reading m) at hands;
+            hands = hands_ended r w s.known s.known old.workers.items old.workers.items old.master.kept.names.next_id old.master.kept.names.next_id old.block i l (leaves_all (suc i, l) s.known old.workers.items old.master.kept.names.next_id) V.hands old.hands.items new.hands.items s.hands within (Hand.Reading x) (machine.Hand.Reading m) at hands;
             files = s.files;
             objects = s.objects;
           });
@@ -94,12 +95,12 @@ module _ {D S R W : Type 0} {d : disks.Ghosts D} (o : objects.Ghosts S R W) (r :
           step = record {
             body = B;
             hands = end_hand l H;
-            step = Step.Accepted (fault_free 0) (ap (λ h. refuse Refusal.BadLabel (is_none h)) at) refl (ap (λ fuse. fuse_serves fuse 0) s.names.unfused) (ap (label_choices no_rise (fault_free 0)) at) done refl;
+            step = Step.Accepted (fault_free 0) (ap (λ h. refuse Refusal.BadLabel (is_none h)) at) refl (serves_none V.body.master.fuse) (ap (label_choices no_rise (fault_free 0)) at) done refl;
             after = refl;
           };
         }
 
-    close_by_kind : (k : machine.Hand) → hand_at (hands_of V (suc i)) l ≡ Some k → Fits r w s.known old.workers.items old.names.next_id old.block (suc i, l) k (Hand.Reading x) → Goes d o r w U old new V (suc i) (Event.Close l) Reply.Done
+    close_by_kind : (k : machine.Hand) → hand_at (hands_of V (suc i)) l ≡ Some k → Fits r w s.known old.workers.items old.master.kept.names.next_id old.block (suc i, l) k (Hand.Reading x) → Goes d o r w U old new V (suc i) (Event.Close l) Reply.Done
     close_by_kind (machine.Hand.Reading m) at fits = close_reading m at fits
     close_by_kind (machine.Hand.Writing m) at fits = absurd fits
     close_by_kind (machine.Hand.Moving m) at fits = absurd fits
@@ -107,7 +108,7 @@ module _ {D S R W : Type 0} {d : disks.Ghosts D} (o : objects.Ghosts S R W) (r :
 
     pub close_stream : Goes d o r w U old new V (suc i) (Event.Close l) Reply.Done
     close_stream =
-        let found = fits_at r w s.known old.workers.items old.names.next_id old.block V.hands old.hands.items s.hands i within l (Hand.Reading x) (end_there i l (Hand.Reading x) old.hands.items new.hands.items hands) in
+        let found = fits_at r w s.known old.workers.items old.master.kept.names.next_id old.block V.hands old.hands.items s.hands i within l (Hand.Reading x) (end_there i l (Hand.Reading x) old.hands.items new.hands.items hands) in
         close_by_kind found.0 found.1 found.2
 
   -- ---- a writer
@@ -115,8 +116,8 @@ module _ {D S R W : Type 0} {d : disks.Ghosts D} (o : objects.Ghosts S R W) (r :
   module _ (x : Writer W) (hands : ChangesAt old.hands.items new.hands.items i (EndsHand l (Hand.Writing x))) (U : Setup) (V : Whole) (s : Stands d o r w U old V) where
     -- the label's end, with what it does to the writer's worker
     close_writing : (m : machine.Writer) (f : Worker → Worker) → hand_at (hands_of V (suc i)) l ≡ Some (machine.Hand.Writing m) → ((W : Worker) → free_open V.body m m.block W ≡ f W)
-        → WorkersStand new.workers.items (change_worker m.worker f V.body) → SetupFits U old.block old.area new.workers.items → NodesStand o s.known old.names.next_id old.block new.workers.items
-        → Leaves (suc i, l) s.known s.known old.workers.items new.workers.items old.names.next_id old.names.next_id → Goes d o r w U old new V (suc i) (Event.Close l) Reply.Done
+        → WorkersStand new.workers.items (change_worker m.worker f V.body) → SetupFits U old.block old.master.journal.limit new.workers.items → NodesStand o s.known old.master.kept.names.next_id old.block new.workers.items
+        → Leaves (suc i, l) s.known s.known old.workers.items new.workers.items old.master.kept.names.next_id old.master.kept.names.next_id → Goes d o r w U old new V (suc i) (Event.Close l) Reply.Done
     close_writing m f at frees workers setup objects left =
         let H = hands_of V (suc i) in
         let B = release (suc i) l (change_worker m.worker f V.body) in
@@ -127,11 +128,11 @@ module _ {D S R W : Type 0} {d : disks.Ghosts D} (o : objects.Ghosts S R W) (r :
           after = after;
           rise = no_rise;
           made = None;
-          stands = stands_by o r w U new after s.known old.block old.area old.names new.workers.items new.hands.items rest.block rest.area rest.names refl refl (record {
+          stands = stands_by o r w U new after s.known old.block old.master.journal.limit old.master new.workers.items new.hands.items rest.block (ap (λ k. k.journal.limit) rest.master) rest.master refl refl (record {
             setup = setup;
-            named = record { nodes = s.names.nodes; gate = s.names.gate; next_id = s.names.next_id; unlocked = s.names.unlocked; up = s.names.up; unfused = s.names.unfused };
+            named = record { names = s.names.names; gate = s.names.gate; generation = s.names.generation; fuse = s.names.fuse; down = s.names.down; unlocked = s.names.unlocked };
             workers = record { rows = workers.rows; registrations = workers.registrations; first = workers.first };
-            hands = hands_ended r w s.known s.known old.workers.items new.workers.items old.names.next_id old.names.next_id old.block i l left V.hands old.hands.items new.hands.items s.hands within (Hand.Writing x) (machine.Hand.Writing m) at hands;
+            hands = hands_ended r w s.known s.known old.workers.items new.workers.items old.master.kept.names.next_id old.master.kept.names.next_id old.block i l left V.hands old.hands.items new.hands.items s.hands within (Hand.Writing x) (machine.Hand.Writing m) at hands;
             files = s.files;
             objects = objects;
           });
@@ -139,7 +140,7 @@ module _ {D S R W : Type 0} {d : disks.Ghosts D} (o : objects.Ghosts S R W) (r :
           step = record {
             body = B;
             hands = end_hand l H;
-            step = Step.Accepted (fault_free 0) (ap (λ h. refuse Refusal.BadLabel (is_none h)) at) refl (ap (λ fuse. fuse_serves fuse 0) s.names.unfused) (ap (label_choices no_rise (fault_free 0)) at) done refl;
+            step = Step.Accepted (fault_free 0) (ap (λ h. refuse Refusal.BadLabel (is_none h)) at) refl (serves_none V.body.master.fuse) (ap (label_choices no_rise (fault_free 0)) at) done refl;
             after = refl;
           };
         }
@@ -150,9 +151,9 @@ module _ {D S R W : Type 0} {d : disks.Ghosts D} (o : objects.Ghosts S R W) (r :
         let nodes : new.workers.items ≡ old.workers.items = ap (λ v. v.items) same in
         close_writing m (λ W. W) at frees
         (subst (λ ns. WorkersStand ns (change_worker m.worker (λ W. W) V.body)) (sym nodes) (record { rows = set-get_or V.body.workers (pred m.worker) no_worker ∙ s.workers.rows; registrations = s.workers.registrations; first = λ v runs. s.workers.first v (ap (λ ws. nat_lt 0 v && (get_or ws (pred v) no_worker).running) (sym (set-get_or V.body.workers (pred m.worker) no_worker)) ∙ runs) }))
-        (subst (λ ns. SetupFits U old.block old.area ns) (sym nodes) s.setup)
-        (subst (NodesStand o s.known old.names.next_id old.block) (sym nodes) s.objects)
-        (subst (λ ns. Leaves (suc i, l) s.known s.known old.workers.items ns old.names.next_id old.names.next_id) (sym nodes) (leaves_all (suc i, l) s.known old.workers.items old.names.next_id))
+        (subst (λ ns. SetupFits U old.block old.master.journal.limit ns) (sym nodes) s.setup)
+        (subst (NodesStand o s.known old.master.kept.names.next_id old.block) (sym nodes) s.objects)
+        (subst (λ ns. Leaves (suc i, l) s.known s.known old.workers.items ns old.master.kept.names.next_id old.master.kept.names.next_id) (sym nodes) (leaves_all (suc i, l) s.known old.workers.items old.master.kept.names.next_id))
 
     -- the reservation is freed
     close_freed : (m : machine.Writer) (n : ℕ) → hand_at (hands_of V (suc i)) l ≡ Some (machine.Hand.Writing m) → m.worker ≡ x.worker → (x.worker ≡ 0 → ⊥) → s.known.owner x.worker n ≡ Some (suc i, l) → ((W : Worker) → free_open V.body m m.block W ≡ without_room n W)
@@ -163,7 +164,7 @@ module _ {D S R W : Type 0} {d : disks.Ghosts D} (o : objects.Ghosts S R W) (r :
         close_writing m (without_room n) at frees
         (workers_change (without_room n) old.workers.items new.workers.items m.worker rows V.body s.workers)
         (setup_stays (without_room n) old.workers.items new.workers.items m.worker rows s.setup)
-        (nodes_change o s.known s.known old.names.next_id old.names.next_id old.block (known_all s.known old.names.next_id) old.workers.items new.workers.items (pred m.worker) (FreesRoom n) here (λ v a b stands c. freed_stands n v a b stands c) s.objects)
+        (nodes_change o s.known s.known old.master.kept.names.next_id old.master.kept.names.next_id old.block (known_all s.known old.master.kept.names.next_id) old.workers.items new.workers.items (pred m.worker) (FreesRoom n) here (λ v a b stands c. freed_stands n v a b stands c) s.objects)
         (record {
           later = omega arith;
           files = λ id few other. (refl, refl);
@@ -174,16 +175,16 @@ module _ {D S R W : Type 0} {d : disks.Ghosts D} (o : objects.Ghosts S R W) (r :
         rooms_kept : (n : ℕ) (a b : Node S) → FreesRoom n a b → KeepsRooms n a b
         rooms_kept n a b c = record { started = c.0.started; rooms = λ k q other found. ap (room_numbered k) c.0.rooms ∙ other_room n k a.book.rooms other ∙ found }
 
-        freed_stands : (n v : ℕ) (a b : Node S) → NodeStands o s.known old.names.next_id old.block v a → FreesRoom n a b → NodeStands o s.known old.names.next_id old.block v b
+        freed_stands : (n v : ℕ) (a b : Node S) → NodeStands o s.known old.master.kept.names.next_id old.block v a → FreesRoom n a b → NodeStands o s.known old.master.kept.names.next_id old.block v b
         freed_stands n v a b stands c = record {
           tells = λ t u there. stands.tells t u (ap (λ ts. slice_get ts.items t) (sym c.1) ∙ there);
-          copies = subst (All (CopyStands o s.known old.names.next_id old.block v b)) (sym c.0.rows) (All-weaker (CopyStands o s.known old.names.next_id old.block v a) (CopyStands o s.known old.names.next_id old.block v b) (copy_moves o s.known old.names.next_id old.block v a b c.0.started c.0.next c.1) a.book.rows stands.copies);
+          copies = subst (All (CopyStands o s.known old.master.kept.names.next_id old.block v b)) (sym c.0.rows) (All-weaker (CopyStands o s.known old.master.kept.names.next_id old.block v a) (CopyStands o s.known old.master.kept.names.next_id old.block v b) (copy_moves o s.known old.master.kept.names.next_id old.block v a b c.0.started c.0.next c.1) a.book.rows stands.copies);
           rooms = subst (All (λ q. q.number < b.book.next)) (sym c.0.rooms) (All-filter (λ q. not (nat_eq q.number n)) (λ q. q.number < b.book.next) a.book.rooms (subst (λ k. All (λ q. q.number < k) a.book.rooms) (sym c.0.next) stands.rooms));
           few = subst (λ k. k ≤ 2 ^ 63) (sym c.0.next) stands.few;
           fresh = λ k h. stands.fresh k (subst (λ z. z ≤ k) c.0.next h);
         }
 
-    by_room : (m : machine.Writer) (e : Option ℕ) → x.room ≡ e → hand_at (hands_of V (suc i)) l ≡ Some (machine.Hand.Writing m) → WriterFits w s.known old.workers.items old.names.next_id old.block (suc i, l) m x
+    by_room : (m : machine.Writer) (e : Option ℕ) → x.room ≡ e → hand_at (hands_of V (suc i)) l ≡ Some (machine.Hand.Writing m) → WriterFits w s.known old.workers.items old.master.kept.names.next_id old.block (suc i, l) m x
         → ((n : ℕ) → x.room ≡ Some n → runs_here old.workers.items x.worker x.started ≡ true → ChangesAt old.workers.items new.workers.items (pred x.worker) (FreesRoom n))
         → ((n : ℕ) → x.room ≡ Some n → runs_here old.workers.items x.worker x.started ≡ false → new.workers ≡ old.workers)
         → (x.room ≡ None → new.workers ≡ old.workers) → Goes d o r w U old new V (suc i) (Event.Close l) Reply.Done
@@ -195,7 +196,7 @@ module _ {D S R W : Type 0} {d : disks.Ghosts D} (o : objects.Ghosts S R W) (r :
           | false ↦ λ stops. close_kept m at (λ W. frees W ∙ ap (λ b. cond b (without_room n W) W) stops) (stopped n is stops)
         ] refl
 
-    writer_by_kind : (k : machine.Hand) → hand_at (hands_of V (suc i)) l ≡ Some k → Fits r w s.known old.workers.items old.names.next_id old.block (suc i, l) k (Hand.Writing x)
+    writer_by_kind : (k : machine.Hand) → hand_at (hands_of V (suc i)) l ≡ Some k → Fits r w s.known old.workers.items old.master.kept.names.next_id old.block (suc i, l) k (Hand.Writing x)
         → ((n : ℕ) → x.room ≡ Some n → runs_here old.workers.items x.worker x.started ≡ true → ChangesAt old.workers.items new.workers.items (pred x.worker) (FreesRoom n))
         → ((n : ℕ) → x.room ≡ Some n → runs_here old.workers.items x.worker x.started ≡ false → new.workers ≡ old.workers)
         → (x.room ≡ None → new.workers ≡ old.workers) → Goes d o r w U old new V (suc i) (Event.Close l) Reply.Done
@@ -208,14 +209,14 @@ module _ {D S R W : Type 0} {d : disks.Ghosts D} (o : objects.Ghosts S R W) (r :
         → ((n : ℕ) → x.room ≡ Some n → runs_here old.workers.items x.worker x.started ≡ false → new.workers ≡ old.workers)
         → (x.room ≡ None → new.workers ≡ old.workers) → Goes d o r w U old new V (suc i) (Event.Close l) Reply.Done
     close_writer freed stopped none =
-        let found = fits_at r w s.known old.workers.items old.names.next_id old.block V.hands old.hands.items s.hands i within l (Hand.Writing x) (end_there i l (Hand.Writing x) old.hands.items new.hands.items hands) in
+        let found = fits_at r w s.known old.workers.items old.master.kept.names.next_id old.block V.hands old.hands.items s.hands i within l (Hand.Writing x) (end_there i l (Hand.Writing x) old.hands.items new.hands.items hands) in
         writer_by_kind found.0 found.1 found.2 freed stopped none
 
 module _ {D S R W : Type 0} {d : disks.Ghosts D} (o : objects.Ghosts S R W) (r : reads.Ghosts R) (w : writes.Ghosts W) (old new : Core D S R W d w) (l : Label) where
   -- no such label
   pub close_refused : (who : ℕ) → is_actor who ≡ true → KeepsRest old new → new.workers ≡ old.workers → ChangesAt old.hands.items new.hands.items (pred who) KeepsHands → IsSomeAnd (slice_get old.hands.items (pred who)) (λ s. hand_in s l ≡ None) → Steps d o r w old new who (Event.Close l) (Reply.Refused Refusal.BadLabel)
   close_refused who is rest workers change absent U V s = by_actor (λ a. ChangesAt old.hands.items new.hands.items (pred a) KeepsHands → IsSomeAnd (slice_get old.hands.items (pred a)) (λ s. hand_in s l ≡ None) → Goes d o r w U old new V a (Event.Close l) (Reply.Refused Refusal.BadLabel)) (λ i within kept none.
-      let gone : hand_at (hands_of V (suc i)) l ≡ None = absent_at r w s.known old.workers.items old.names.next_id old.block V.hands old.hands.items s.hands i within l none in
+      let gone : hand_at (hands_of V (suc i)) l ≡ None = absent_at r w s.known old.workers.items old.master.kept.names.next_id old.block V.hands old.hands.items s.hands i within l none in
       goes_refused o r w U old new V (suc i) (Event.Close l) (Reply.Refused Refusal.BadLabel) (stands_kept o r w U V old new i within rest workers kept s) (ap (λ h. refuse Refusal.BadLabel (is_none h)) gone) refl refl) who is change absent
 
   -- the label ends, and its reservation is freed where the worker wasn't started anew

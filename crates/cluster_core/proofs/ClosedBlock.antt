@@ -17,9 +17,10 @@ use Rattle.file_writer.specs.declared.parts.Block.{Block}
 use Rattle.file_writer.specs.Parts.{block_tells, open_block}
 use Rattle.file_writer.specs.Taken.{HasTaken, BlockHas}
 use Rattle.file_writer.specs.Writing.{Writing, block_writer, wants_room, without_writer}
+use Rattle.cluster_core.proofs.Named.{writes_whole}
 use Rattle.cluster_core.specs.declared.node.Node.{Node}
 use Rattle.cluster_core.specs.declared.hand.Writer.{Writer}
-use Rattle.cluster_core.specs.NamesView.{NamesView}
+use Rattle.master_node.specs.Mastering.{Mastering}
 use Rattle.cluster_core.specs.NamesStand.{NamesStand}
 use Rattle.cluster_core.specs.Tiers.{ChangesAt}
 use Rattle.cluster_core.specs.Here.{runs_here}
@@ -71,7 +72,7 @@ module _ {W : Type 0} (w : writes.Ghosts W) where
   closed_wants None x = refl
   closed_wants (Some n) x = wants_by x.bs x.block
 
-  closed_bs : (e : Option ℕ) (x : Writing W) → (closed_bytes e x).bs ≡ x.bs
+  pub closed_bs : (e : Option ℕ) (x : Writing W) → (closed_bytes e x).bs ≡ x.bs
   closed_bs None x = refl
   closed_bs (Some n) x = refl
 
@@ -106,7 +107,7 @@ module _ {S W : Type 0} (w : writes.Ghosts W) (K N : Knowledge) (nodes mid : Lis
     reserved = tt;
     old = f.old;
     bytes = bytes ∙ f.bytes;
-    author = author ∙ f.author;
+    author = inl (author ∙ writes_whole K m.file a x.broken f.author whole);
   }
 
   -- it is broken
@@ -126,7 +127,7 @@ module _ {S W : Type 0} (w : writes.Ghosts W) (K N : Knowledge) (nodes mid : Lis
     reserved = tt;
     old = f.old;
     bytes = bytes ∙ f.bytes;
-    author = author ∙ f.author;
+    author = inl (author ∙ writes_whole K m.file a x.broken f.author whole);
   }
 
 -- ---- what the core stands by
@@ -153,17 +154,17 @@ one_gone K next v n = record {
 pub no_owner : (K : Knowledge) (v n : ℕ) → (with_owner v n None K).owner v n ≡ None
 no_owner K v n = ap₂ (λ b c. cond (b && c) None (K.owner v n)) (eq-eqb v v refl) (eq-eqb n n refl)
 
-module _ {S R W : Type 0} (o : objects.Ghosts S R W) (w : writes.Ghosts W) (K : Knowledge) (names : NamesView) (nodes mid : List (Node S)) (bs area : ℕ) (i : ℕ) (l : List ℕ) (m : machine.Writer) (x : Writer W) (f : WriterFits w K nodes names.next_id bs (suc i, l) m x) (whole : x.broken ≡ false) (some : 0 < bs) (small : bs < 2 ^ 32) (U : Setup) (A : State) (named : NamesStand names A) (workers : WorkersStand nodes A) (setup : SetupFits U bs area nodes) (stand : NodesStand o K names.next_id bs nodes) (contents : List Content) (files : All (FileFits K contents names.next_id bs) names.nodes) (stands : writer_stands A m ≡ true) (runs : runs_here nodes x.worker x.started ≡ true) (file : IsSome (file_row names.nodes x.file)) where
+module _ {D S R W : Type 0} (o : objects.Ghosts S R W) (w : writes.Ghosts W) (K : Knowledge) (master : Mastering D) (nodes mid : List (Node S)) (bs area : ℕ) (i : ℕ) (l : List ℕ) (m : machine.Writer) (x : Writer W) (f : WriterFits w K nodes master.kept.names.next_id bs (suc i, l) m x) (whole : x.broken ≡ false) (some : 0 < bs) (small : bs < 2 ^ 32) (U : Setup) (A : State) (named : NamesStand master A) (workers : WorkersStand nodes A) (setup : SetupFits U bs area nodes) (stand : NodesStand o K master.kept.names.next_id bs nodes) (contents : List Content) (files : All (FileFits K contents master.kept.names.next_id bs) master.kept.names.nodes) (stands : writer_stands A m ≡ true) (runs : runs_here nodes x.worker x.started ≡ true) (file : IsSome (file_row master.kept.names.nodes x.file)) where
   -- without a reservation nothing happens
-  pub none_committed : x.room ≡ None → mid ≡ nodes → AfterCommit o U A m K K (suc i, l) nodes mid names.next_id bs area
+  pub none_committed : x.room ≡ None → mid ≡ nodes → AfterCommit o U A m K K (suc i, l) nodes mid master.kept.names.next_id bs area
   none_committed none same =
       let shut : m.block ≡ None = (f.on whole).block ∙ ap (λ e. open_of e x.bytes.block) none in
       let does : (λ (k : Worker). k) ≡ close_open U A m m.block = λ j k. sym (ap (λ b. close_open U A m b k) shut) j in
       record {
         workers = subst (λ (g : Worker → Worker). WorkersStand mid (change_worker m.worker g A)) does (subst (λ ns. WorkersStand ns (change_worker m.worker (λ k. k) A)) (sym same) (record { rows = set-get_or A.workers (pred m.worker) no_worker ∙ workers.rows; registrations = workers.registrations; first = λ v is. workers.first v (ap (λ ws. nat_lt 0 v && (get_or ws (pred v) no_worker).running) (sym (set-get_or A.workers (pred m.worker) no_worker)) ∙ is) }));
         setup = subst (SetupFits U bs area) (sym same) setup;
-        nodes_stand = subst (NodesStand o K names.next_id bs) (sym same) stand;
-        leaves = subst (λ ns. Leaves (suc i, l) K K nodes ns names.next_id names.next_id) (sym same) (leaves_all (suc i, l) K nodes names.next_id);
+        nodes_stand = subst (NodesStand o K master.kept.names.next_id bs) (sym same) stand;
+        leaves = subst (λ ns. Leaves (suc i, l) K K nodes ns master.kept.names.next_id master.kept.names.next_id) (sym same) (leaves_all (suc i, l) K nodes master.kept.names.next_id);
       }
 
   -- a whole block
@@ -171,23 +172,23 @@ module _ {S R W : Type 0} (o : objects.Ghosts S R W) (w : writes.Ghosts W) (K : 
   full_block k None wanted there = absurd (cc)
   full_block k (Some q) wanted there = leb-true k q.len wanted
 
-  some_committed : (n : ℕ) → x.room ≡ Some n → wants_room x.bytes ≡ true → ((pen : W) → block_writer x.bytes ≡ Some pen → ChangesAt nodes mid (pred x.worker) (Commits o w n (key_at nodes x.worker n) pen (finished_of names.nodes bs x))) → AfterCommit o U A m K (with_owner x.worker n None K) (suc i, l) nodes mid names.next_id bs area
+  some_committed : (n : ℕ) → x.room ≡ Some n → wants_room x.bytes ≡ true → ((pen : W) → block_writer x.bytes ≡ Some pen → ChangesAt nodes mid (pred x.worker) (Commits o w n (key_at nodes x.worker n) pen (finished_of master.kept.names.nodes bs x))) → AfterCommit o U A m K (with_owner x.worker n None K) (suc i, l) nodes mid master.kept.names.next_id bs area
   some_committed n reserved wanted commits =
-      let k = known o w K names nodes bs (suc i, l) m x f whole some small n reserved in
+      let k = known o w K master nodes bs (suc i, l) m x f whole some small n reserved in
       let change = commits k.3 k.4 in
       let N = with_owner x.worker n None K in
-      let on = one_gone K names.next_id x.worker n in
+      let on = one_gone K master.kept.names.next_id x.worker n in
       let gone = no_owner K x.worker n in
       let begun : IsSome x.bytes.block = subst IsSome (sym k.1) refl in
       let full : bs ≤ open_len x.bytes.block = subst (λ d. d ≤ open_len x.bytes.block) f.blocks (full_block x.bytes.bs x.bytes.block wanted begun) in
       record {
-        workers = workers_committed o w K N names nodes mid bs area i l m x f whole some small U A named workers setup stand contents files stands runs file n reserved k.3 k.4 change on gone f.bytes;
-        setup = setup_committed o w K N names nodes mid bs area i l m x f whole some small U A named workers setup stand contents files stands runs file n reserved k.3 k.4 change on gone f.bytes;
-        nodes_stand = nodes_committed o w K N names nodes mid bs area i l m x f whole some small U A named workers setup stand contents files stands runs file n reserved k.3 k.4 change on gone f.bytes (λ _. full);
-        leaves = leaves_committed o w K N names nodes mid bs area i l m x f whole some small U A named workers setup stand contents files stands runs file n reserved k.3 k.4 change on gone f.bytes (λ id few other. (refl, refl)) (λ v j b h other. ap (λ c. cond c None (K.owner v j)) (not_both x.worker v n j (λ e d. other (some_same b (suc i, l) (sym h ∙ ap₂ K.owner e d ∙ (subst (λ y. IfSome y (λ q. (K.owner x.worker q ≡ Some (suc i, l)) × HasRoomOf nodes x.worker x.started q bs)) reserved f.reserved).0)))) ∙ h);
+        workers = workers_committed o w K N master nodes mid bs area i l m x f whole some small U A named workers setup stand contents files stands runs file n reserved k.3 k.4 change on gone f.bytes;
+        setup = setup_committed o w K N master nodes mid bs area i l m x f whole some small U A named workers setup stand contents files stands runs file n reserved k.3 k.4 change on gone f.bytes;
+        nodes_stand = nodes_committed o w K N master nodes mid bs area i l m x f whole some small U A named workers setup stand contents files stands runs file n reserved k.3 k.4 change on gone f.bytes (λ _. full);
+        leaves = leaves_committed o w K N master nodes mid bs area i l m x f whole some small U A named workers setup stand contents files stands runs file n reserved k.3 k.4 change on gone f.bytes (λ id few other. (refl, refl)) (λ v j b h other. ap (λ c. cond c None (K.owner v j)) (not_both x.worker v n j (λ e d. other (some_same b (suc i, l) (sym h ∙ ap₂ K.owner e d ∙ (subst (λ y. IfSome y (λ q. (K.owner x.worker q ≡ Some (suc i, l)) × HasRoomOf nodes x.worker x.started q bs)) reserved f.reserved).0)))) ∙ h);
       }
 
   -- both
-  pub after_commit : (e : Option ℕ) → x.room ≡ e → wants_room x.bytes ≡ true → ((n : ℕ) (pen : W) → x.room ≡ Some n → block_writer x.bytes ≡ Some pen → ChangesAt nodes mid (pred x.worker) (Commits o w n (key_at nodes x.worker n) pen (finished_of names.nodes bs x))) → (x.room ≡ None → mid ≡ nodes) → AfterCommit o U A m K (without_owner x.worker e K) (suc i, l) nodes mid names.next_id bs area
+  pub after_commit : (e : Option ℕ) → x.room ≡ e → wants_room x.bytes ≡ true → ((n : ℕ) (pen : W) → x.room ≡ Some n → block_writer x.bytes ≡ Some pen → ChangesAt nodes mid (pred x.worker) (Commits o w n (key_at nodes x.worker n) pen (finished_of master.kept.names.nodes bs x))) → (x.room ≡ None → mid ≡ nodes) → AfterCommit o U A m K (without_owner x.worker e K) (suc i, l) nodes mid master.kept.names.next_id bs area
   after_commit None is wanted commits kept = none_committed is (kept is)
   after_commit (Some n) is wanted commits kept = some_committed n is wanted (λ pen takes. commits n pen is takes)

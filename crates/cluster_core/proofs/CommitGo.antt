@@ -19,10 +19,11 @@ use Rattle.file_writer.specs.declared.pen.Pen.TheVariants.{Open, Broken, Gone}
 use Rattle.file_writer.specs.Pens.{PenHas, pen_tells, writer_of}
 use Rattle.file_writer.specs.Parts.{block_tells}
 use Rattle.file_writer.specs.Taken.{open_bytes, open_index, BlockHas}
+use Rattle.cluster_core.proofs.Named.{nodes_are}
 use Rattle.cluster_core.specs.declared.node.Node.{Node}
 use Rattle.cluster_core.specs.declared.node.Finished.{Finished}
 use Rattle.cluster_core.specs.declared.hand.Writer.{Writer}
-use Rattle.cluster_core.specs.NamesView.{NamesView}
+use Rattle.master_node.specs.Mastering.{Mastering}
 use Rattle.cluster_core.specs.NamesStand.{NamesStand}
 use Rattle.cluster_core.specs.Nodes.{commit_as}
 use Rattle.cluster_core.specs.Knowledge.{Knowledge, Holder}
@@ -43,12 +44,12 @@ pinned_by None = refl
 pinned_by (Some (p, machineNode.Directory)) = refl
 pinned_by (Some (p, machineNode.IsFile f)) = refl
 
-module _ (names : NamesView) (A : State) (id : ℕ) (s : NamesStand names A) where
-  pub kept_is : is_kept A.names id ≡ keeps (file_node names.nodes id)
-  kept_is = kept_by (row_of A.names id) ∙ ap (λ rows. keeps (file_node rows id)) s.nodes
+module _ {D : Type 0} (master : Mastering D) (A : State) (id : ℕ) (s : NamesStand master A) where
+  pub kept_is : is_kept A.names id ≡ keeps (file_node master.kept.names.nodes id)
+  kept_is = kept_by (row_of A.names id) ∙ ap (λ rows. keeps (file_node rows id)) (nodes_are s)
 
-  pub pinned_is : is_pinned A.names id ≡ pins (file_node names.nodes id)
-  pinned_is = pinned_by (row_of A.names id) ∙ ap (λ rows. pins (file_node rows id)) s.nodes
+  pub pinned_is : is_pinned A.names id ≡ pins (file_node master.kept.names.nodes id)
+  pinned_is = pinned_by (row_of A.names id) ∙ ap (λ rows. pins (file_node rows id)) (nodes_are s)
 
 -- ---- the writer of the open block
 
@@ -70,7 +71,7 @@ block_known w bs taken (Some q) has tells = let p = pen_known w (open_bytes bs q
 
 -- ---- what is committed
 
-module _ {S R W : Type 0} (o : objects.Ghosts S R W) (w : writes.Ghosts W) (K : Knowledge) (names : NamesView) (nodes : List (Node S)) (bs : ℕ) (a : Holder) (m : machine.Writer) (x : Writer W) (f : WriterFits w K nodes names.next_id bs a m x) (whole : x.broken ≡ false) (some : 0 < bs) (small : bs < 2 ^ 32) (n : ℕ) (reserved : x.room ≡ Some n) where
+module _ {D S R W : Type 0} (o : objects.Ghosts S R W) (w : writes.Ghosts W) (K : Knowledge) (master : Mastering D) (nodes : List (Node S)) (bs : ℕ) (a : Holder) (m : machine.Writer) (x : Writer W) (f : WriterFits w K nodes master.kept.names.next_id bs a m x) (whole : x.broken ≡ false) (some : 0 < bs) (small : bs < 2 ^ 32) (n : ℕ) (reserved : x.room ≡ Some n) where
   -- the open block, its place and its writer
   pub known : (q : Block W) × (x.bytes.block ≡ Some q) × (open_index bs q.len m.taken * bs + q.len ≡ length m.taken) × (pen : W) × (option_and_then (λ (c : Block W). writer_of c.pen) x.bytes.block ≡ Some pen) × (w.taken pen ≡ Some (open_bytes bs q.len m.taken))
   known = block_known w bs m.taken x.bytes.block (subst (λ k. BlockHas w k m.taken x.bytes.block) f.blocks (f.on whole).taken.block) ((f.on whole).tells ∙ ap is_some reserved)
@@ -80,7 +81,7 @@ module _ {S R W : Type 0} (o : objects.Ghosts S R W) (w : writes.Ghosts W) (K : 
   open_is = (f.on whole).block ∙ ap₂ open_of reserved known.1
 
   abbrev fin : Finished
-  fin = finished_of names.nodes bs x
+  fin = finished_of master.kept.names.nodes bs x
 
   len_is : fin.len ≡ known.0.len
   len_is = ap open_len known.1
@@ -122,11 +123,11 @@ module _ {S R W : Type 0} (o : objects.Ghosts S R W) (w : writes.Ghosts W) (K : 
       }
 
   -- what the machine does to the worker
-  module _ (U : Setup) (A : State) (named : NamesStand names A) (stands : writer_stands A m ≡ true) where
+  module _ (U : Setup) (A : State) (named : NamesStand master A) (stands : writer_stands A m ≡ true) where
     pub closes : (k : Worker) → close_open U A m m.block k ≡ commit_as fin.keep fin.pin n fin.file fin.block fin.len k
     closes k =
         ap (λ b. close_open U A m b k) open_is
         ∙ ap (λ b. cond b (commit A.names n m.file ((length m.taken - known.0.len) / m.bs) known.0.len k) (cond (runs_since A m.worker m.start) (without_room n k) k)) stands
         ∙ ap (λ d. commit A.names n m.file ((length m.taken - known.0.len) / d) known.0.len k) f.bs
-        ∙ (let place = sym number_is in let size = sym len_is in λ j. commit_as (kept_is names A m.file named j) (pinned_is names A m.file named j) n m.file (place j) (size j) k)
-        ∙ ap (λ id. commit_as (keeps (file_node names.nodes id)) (pins (file_node names.nodes id)) n id fin.block fin.len k) f.file
+        ∙ (let place = sym number_is in let size = sym len_is in λ j. commit_as (kept_is master A m.file named j) (pinned_is master A m.file named j) n m.file (place j) (size j) k)
+        ∙ ap (λ id. commit_as (keeps (file_node master.kept.names.nodes id)) (pins (file_node master.kept.names.nodes id)) n id fin.block fin.len k) f.file

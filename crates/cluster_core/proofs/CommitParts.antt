@@ -16,7 +16,7 @@ use Rattle.tier_book.specs.Rows.{room_numbered}
 use Rattle.file_writer.specs.Writing.{block_writer}
 use Rattle.cluster_core.specs.declared.node.Node.{Node}
 use Rattle.cluster_core.specs.declared.hand.Writer.{Writer}
-use Rattle.cluster_core.specs.NamesView.{NamesView}
+use Rattle.master_node.specs.Mastering.{Mastering}
 use Rattle.cluster_core.specs.NamesStand.{NamesStand}
 use Rattle.cluster_core.specs.Nodes.{commit_as}
 use Rattle.cluster_core.specs.Tiers.{ChangesAt, object_key}
@@ -54,7 +54,7 @@ must_keep K contents next bs rows id all there = of_row (file_row rows id) refl 
     of_row None is there = absurd (cc)
     of_row (Some q) is there = let found = found_of_all (FileFits K contents next bs) (λ (c : NodeRow). id_is id c.1) rows q all is in by_row q found.0 found.1
 
-module _ {S R W : Type 0} (o : objects.Ghosts S R W) (w : writes.Ghosts W) (K N : Knowledge) (names : NamesView) (nodes mid : List (Node S)) (bs area : ℕ) (i : ℕ) (l : List ℕ) (m : machine.Writer) (x : Writer W) (f : WriterFits w K nodes names.next_id bs (suc i, l) m x) (whole : x.broken ≡ false) (some : 0 < bs) (small : bs < 2 ^ 32) (U : Setup) (A : State) (named : NamesStand names A) (workers : WorkersStand nodes A) (setup : SetupFits U bs area nodes) (stand : NodesStand o K names.next_id bs nodes) (contents : List Content) (files : All (FileFits K contents names.next_id bs) names.nodes) (stands : writer_stands A m ≡ true) (runs : runs_here nodes x.worker x.started ≡ true) (file : IsSome (file_row names.nodes x.file)) where
+module _ {D S R W : Type 0} (o : objects.Ghosts S R W) (w : writes.Ghosts W) (K N : Knowledge) (master : Mastering D) (nodes mid : List (Node S)) (bs area : ℕ) (i : ℕ) (l : List ℕ) (m : machine.Writer) (x : Writer W) (f : WriterFits w K nodes master.kept.names.next_id bs (suc i, l) m x) (whole : x.broken ≡ false) (some : 0 < bs) (small : bs < 2 ^ 32) (U : Setup) (A : State) (named : NamesStand master A) (workers : WorkersStand nodes A) (setup : SetupFits U bs area nodes) (stand : NodesStand o K master.kept.names.next_id bs nodes) (contents : List Content) (files : All (FileFits K contents master.kept.names.next_id bs) master.kept.names.nodes) (stands : writer_stands A m ≡ true) (runs : runs_here nodes x.worker x.started ≡ true) (file : IsSome (file_row master.kept.names.nodes x.file)) where
   -- its worker, by the place
   pub some_worker : x.worker ≡ 0 → ⊥
   some_worker none = let k = f.placed in absurd (omega (arith, k, none))
@@ -89,11 +89,11 @@ module _ {S R W : Type 0} (o : objects.Ghosts S R W) (w : writes.Ghosts W) (K N 
 
   -- ---- with a reservation
 
-  module _ (n : ℕ) (reserved : x.room ≡ Some n) (pen : W) (writes_to : block_writer x.bytes ≡ Some pen) (change : ChangesAt nodes mid (pred x.worker) (Commits o w n (key_at nodes x.worker n) pen (finished_of names.nodes bs x))) (on : KnownOn K N names.next_id names.next_id) (gone : N.owner x.worker n ≡ None) (there : N.bytes_of m.file ≡ Some m.taken) where
+  module _ (n : ℕ) (reserved : x.room ≡ Some n) (pen : W) (writes_to : block_writer x.bytes ≡ Some pen) (change : ChangesAt nodes mid (pred x.worker) (Commits o w n (key_at nodes x.worker n) pen (finished_of master.kept.names.nodes bs x))) (on : KnownOn K N master.kept.names.next_id master.kept.names.next_id) (gone : N.owner x.worker n ≡ None) (there : N.bytes_of m.file ≡ Some m.taken) where
     -- the open block's writer is the one that was taken out
-    pen_taken : w.taken pen ≡ Some (bytes o w K names nodes bs (suc i, l) m x f whole some small n reserved)
+    pen_taken : w.taken pen ≡ Some (bytes o w K master nodes bs (suc i, l) m x f whole some small n reserved)
     pen_taken =
-        let k = known o w K names nodes bs (suc i, l) m x f whole some small n reserved in
+        let k = known o w K master nodes bs (suc i, l) m x f whole some small n reserved in
         ap w.taken (some_same pen k.3 (sym writes_to ∙ k.4)) ∙ k.5
 
     -- the key is that of the worker's starts
@@ -101,50 +101,50 @@ module _ {S R W : Type 0} (o : objects.Ghosts S R W) (w : writes.Ghosts W) (K N 
     key_is node there = ap (λ y. object_key (started_of y) n) there
 
     -- the block has room in the reservation
-    fits_in : (q : RoomRow) → q.bytes ≡ bs → (finished_of names.nodes bs x).len ≤ q.bytes
-    fits_in q is = subst (λ k. (finished_of names.nodes bs x).len ≤ k) (sym is) (within_block o w K names nodes bs (suc i, l) m x f whole some small n reserved)
+    fits_in : (q : RoomRow) → q.bytes ≡ bs → (finished_of master.kept.names.nodes bs x).len ≤ q.bytes
+    fits_in q is = subst (λ k. (finished_of master.kept.names.nodes bs x).len ≤ k) (sym is) (within_block o w K master nodes bs (suc i, l) m x f whole some small n reserved)
 
     -- the commit at the worker itself
-    module _ (a b : Node S) (was : slice_get nodes (pred x.worker) ≡ Some a) (c : Commits o w n (key_at nodes x.worker n) pen (finished_of names.nodes bs x) a b) where
-      here : Commits o w n (object_key a.started n) pen (finished_of names.nodes bs x) a b
-      here = subst (λ key. Commits o w n key pen (finished_of names.nodes bs x) a b) (key_is a was) c
+    module _ (a b : Node S) (was : slice_get nodes (pred x.worker) ≡ Some a) (c : Commits o w n (key_at nodes x.worker n) pen (finished_of master.kept.names.nodes bs x) a b) where
+      here : Commits o w n (object_key a.started n) pen (finished_of master.kept.names.nodes bs x) a b
+      here = subst (λ key. Commits o w n key pen (finished_of master.kept.names.nodes bs x) a b) (key_is a was) c
 
-      stands_here : NodeStands o K names.next_id bs (suc (pred x.worker)) a
+      stands_here : NodeStands o K master.kept.names.next_id bs (suc (pred x.worker)) a
       stands_here = stand (pred x.worker) a was
 
       owned_here : K.owner (suc (pred x.worker)) n ≡ Some (suc i, l)
       owned_here = ap (λ k. K.owner k n) (sym at_place) ∙ owned n reserved
 
-      pub row_here : RowChanges (commit_as (finished_of names.nodes bs x).keep (finished_of names.nodes bs x).pin n x.file (finished_of names.nodes bs x).block (finished_of names.nodes bs x).len) a b
-      row_here = let q = room_there n reserved a was in row_committed o w K N names.next_id bs (suc (pred x.worker)) n on a b pen (finished_of names.nodes bs x) (bytes o w K names nodes bs (suc i, l) m x f whole some small n reserved) q.0 q.1 stands_here pen_taken (suc i, l) owned_here here (fits_in q.0 q.2)
+      pub row_here : RowChanges (commit_as (finished_of master.kept.names.nodes bs x).keep (finished_of master.kept.names.nodes bs x).pin n x.file (finished_of master.kept.names.nodes bs x).block (finished_of master.kept.names.nodes bs x).len) a b
+      row_here = let q = room_there n reserved a was in row_committed o w K N master.kept.names.next_id bs (suc (pred x.worker)) n on a b pen (finished_of master.kept.names.nodes bs x) (bytes o w K master nodes bs (suc i, l) m x f whole some small n reserved) q.0 q.1 stands_here pen_taken (suc i, l) owned_here here (fits_in q.0 q.2)
 
       pub rooms_here : KeepsRooms n a b
-      rooms_here = let q = room_there n reserved a was in rooms_committed o w K N names.next_id bs (suc (pred x.worker)) n on a b pen (finished_of names.nodes bs x) (bytes o w K names nodes bs (suc i, l) m x f whole some small n reserved) q.0 q.1 stands_here pen_taken (suc i, l) owned_here here (fits_in q.0 q.2)
+      rooms_here = let q = room_there n reserved a was in rooms_committed o w K N master.kept.names.next_id bs (suc (pred x.worker)) n on a b pen (finished_of master.kept.names.nodes bs x) (bytes o w K master nodes bs (suc i, l) m x f whole some small n reserved) q.0 q.1 stands_here pen_taken (suc i, l) owned_here here (fits_in q.0 q.2)
 
-      pub node_here : (is_some (N.author m.file) ≡ true → bs ≤ open_len x.bytes.block) → NodeStands o N names.next_id bs (suc (pred x.worker)) b
+      pub node_here : (is_some (N.author m.file) ≡ true → bs ≤ open_len x.bytes.block) → NodeStands o N master.kept.names.next_id bs (suc (pred x.worker)) b
       node_here full = let q = room_there n reserved a was in
-          node_committed o w K N names.next_id bs (suc (pred x.worker)) n on a b pen (finished_of names.nodes bs x) (bytes o w K names nodes bs (suc i, l) m x f whole some small n reserved) q.0 q.1 stands_here pen_taken (suc i, l) owned_here here (fits_in q.0 q.2)
-          (must_keep K contents names.next_id bs names.nodes x.file files file) (subst (λ k. k < names.next_id) f.file f.old) (ap (λ k. N.owner k n) (sym at_place) ∙ gone)
-          (object_fits o w K names nodes bs (suc i, l) m x f whole some small n reserved N q.0.tier there full)
+          node_committed o w K N master.kept.names.next_id bs (suc (pred x.worker)) n on a b pen (finished_of master.kept.names.nodes bs x) (bytes o w K master nodes bs (suc i, l) m x f whole some small n reserved) q.0 q.1 stands_here pen_taken (suc i, l) owned_here here (fits_in q.0 q.2)
+          (must_keep K contents master.kept.names.next_id bs master.kept.names.nodes x.file files file) (subst (λ k. k < master.kept.names.next_id) f.file f.old) (ap (λ k. N.owner k n) (sym at_place) ∙ gone)
+          (object_fits o w K master nodes bs (suc i, l) m x f whole some small n reserved N q.0.tier there full)
 
     -- all workers
-    row_changes : ChangesAt nodes mid (pred x.worker) (RowChanges (commit_as (finished_of names.nodes bs x).keep (finished_of names.nodes bs x).pin n x.file (finished_of names.nodes bs x).block (finished_of names.nodes bs x).len))
+    row_changes : ChangesAt nodes mid (pred x.worker) (RowChanges (commit_as (finished_of master.kept.names.nodes bs x).keep (finished_of master.kept.names.nodes bs x).pin n x.file (finished_of master.kept.names.nodes bs x).block (finished_of master.kept.names.nodes bs x).len))
     row_changes = changes_there nodes mid (pred x.worker) change (λ a b was c. row_here a b was c)
 
     pub workers_committed : WorkersStand mid (close_block U A m)
     workers_committed =
         let at : pred m.worker ≡ pred x.worker = ap pred f.worker in
-        let rows = subst (λ k. ChangesAt nodes mid k (RowChanges (commit_as (finished_of names.nodes bs x).keep (finished_of names.nodes bs x).pin n x.file (finished_of names.nodes bs x).block (finished_of names.nodes bs x).len))) (sym at) row_changes in
-        let does = closes o w K names nodes bs (suc i, l) m x f whole some small n reserved U A named stands in
-        subst (λ (g : Worker → Worker). WorkersStand mid (change_worker m.worker g A)) (λ j k. sym (does k) j) (workers_change (commit_as (finished_of names.nodes bs x).keep (finished_of names.nodes bs x).pin n x.file (finished_of names.nodes bs x).block (finished_of names.nodes bs x).len) nodes mid m.worker rows A workers)
+        let rows = subst (λ k. ChangesAt nodes mid k (RowChanges (commit_as (finished_of master.kept.names.nodes bs x).keep (finished_of master.kept.names.nodes bs x).pin n x.file (finished_of master.kept.names.nodes bs x).block (finished_of master.kept.names.nodes bs x).len))) (sym at) row_changes in
+        let does = closes o w K master nodes bs (suc i, l) m x f whole some small n reserved U A named stands in
+        subst (λ (g : Worker → Worker). WorkersStand mid (change_worker m.worker g A)) (λ j k. sym (does k) j) (workers_change (commit_as (finished_of master.kept.names.nodes bs x).keep (finished_of master.kept.names.nodes bs x).pin n x.file (finished_of master.kept.names.nodes bs x).block (finished_of master.kept.names.nodes bs x).len) nodes mid m.worker rows A workers)
 
     pub setup_committed : SetupFits U bs area mid
     setup_committed = setup_at nodes mid (pred x.worker) (changes_there nodes mid (pred x.worker) change (λ a b was c. (row_here a b was c).sizes)) setup
 
-    pub nodes_committed : (is_some (N.author m.file) ≡ true → bs ≤ open_len x.bytes.block) → NodesStand o N names.next_id bs mid
-    nodes_committed full = nodes_change_there o K N names.next_id names.next_id bs on nodes mid (pred x.worker) (Commits o w n (key_at nodes x.worker n) pen (finished_of names.nodes bs x)) change (λ a b was c. node_here a b was c full) stand
+    pub nodes_committed : (is_some (N.author m.file) ≡ true → bs ≤ open_len x.bytes.block) → NodesStand o N master.kept.names.next_id bs mid
+    nodes_committed full = nodes_change_there o K N master.kept.names.next_id master.kept.names.next_id bs on nodes mid (pred x.worker) (Commits o w n (key_at nodes x.worker n) pen (finished_of master.kept.names.nodes bs x)) change (λ a b was c. node_here a b was c full) stand
 
-    pub leaves_committed : (later : (id : ℕ) → id < names.next_id → (K.author id ≡ Some (suc i, l) → ⊥) → (N.bytes_of id ≡ K.bytes_of id) × (N.author id ≡ K.author id)) → ((v k : ℕ) (b : Holder) → K.owner v k ≡ Some b → (b ≡ (suc i, l) → ⊥) → N.owner v k ≡ Some b) → Leaves (suc i, l) K N nodes mid names.next_id names.next_id
+    pub leaves_committed : (later : (id : ℕ) → id < master.kept.names.next_id → (K.author id ≡ Some (suc i, l) → ⊥) → (N.bytes_of id ≡ K.bytes_of id) × (N.author id ≡ K.author id)) → ((v k : ℕ) (b : Holder) → K.owner v k ≡ Some b → (b ≡ (suc i, l) → ⊥) → N.owner v k ≡ Some b) → Leaves (suc i, l) K N nodes mid master.kept.names.next_id master.kept.names.next_id
     leaves_committed later owners = record {
       later = omega arith;
       files = later;

@@ -1,6 +1,6 @@
 -- A new file with its writer as a step of the file machine.
 use Rattle.std.proofs.Common.{◌≡◌, ℕ, suc, pred, ◌+◌, ◌*◌, ◌<◌, ◌≤◌, true, false, cond, List, [], length, get_or, nat_eq, Option, Some, None, is_some, option_map, inl, refl, sym, ap, ◌∙◌, subst, arith}
-use Rattle.std.specs.Prelude.{IsSomeAnd, slice_get, option_and_then, unwrap_or}
+use Rattle.std.specs.Prelude.{IsTrue, Result, Ok, Err, OnOk, OnErr, max, IsSomeAnd, slice_get, option_and_then, unwrap_or}
 use Rattle.std.proofs.lemmas.Bool.{eqb-true}
 use Rattle.std.proofs.Math.Nat.{zero-div}
 use Rattle.fs_model.specs.Spelled.{is_actor}
@@ -27,7 +27,22 @@ use Rattle.outside.specs.declared.objects.Objects as objects
 use Rattle.outside.specs.declared.objects.ObjectRead as reads
 use Rattle.outside.specs.declared.objects.ObjectWrite as writes
 use Rattle.file_writer.specs.Taken.{HasTaken}
-use Rattle.cluster_core.specs.Names.{with_file, new_file}
+use Rattle.fs_model.specs.declared.change.Change.{Change}
+use Rattle.fs_model.specs.State.{Doubt, Names}
+use Rattle.fs_model.specs.Words.{path_len}
+use Rattle.fs_model.specs.Changes.{apply}
+use Rattle.fs_model.specs.Updates.{journal}
+use Rattle.fs_model.specs.Step.{stopped_with}
+use Rattle.journal_entry.specs.declared.entry.Entry.{Entry}
+use Rattle.journal_entry.specs.EntryText.{entry_text}
+use Rattle.journal_entry.proofs.BodyLengths.{length-change}
+use Rattle.journal_disk.specs.declared.fault.AppendFault.{AppendFault}
+use Rattle.journal_disk.specs.declared.fault.AppendFault.TheVariants as faults
+use Rattle.master_state.specs.Effect.{counts_in}
+use Rattle.master_node.specs.Mastering.{entered, names_of, standing_of}
+use Rattle.cluster_core.specs.Entering.{Entered, Enters, HasStopped, Stays, done_or}
+use Rattle.cluster_core.specs.Names.{new_file}
+use Rattle.cluster_core.specs.NamesStand.{NamesStand}
 use Rattle.cluster_core.specs.Tests.{create_test}
 use Rattle.cluster_core.specs.Tiers.{ChangesAt}
 use Rattle.cluster_core.specs.LabelsView.{LabelsView, hand_in, count}
@@ -38,16 +53,19 @@ use Rattle.cluster_core.specs.Knowledge.{Knowledge, Holder, Leaves, with_author,
 use Rattle.cluster_core.specs.Here.{started_here, configured_here}
 use Rattle.cluster_core.specs.Creating.{no_bytes, new_writer}
 use Rattle.cluster_core.specs.Openings.{has_here, count_here, here}
-use Rattle.cluster_core.specs.Stands.{Stands, HandsStand, FilesStand, FileFits, content_row}
+use Rattle.cluster_core.specs.Stands.{Stands, HandsStand, NodesStand, FilesStand, FileFits, content_row}
 use Rattle.cluster_core.specs.Goes.{Steps, Rises, no_rise}
 use Rattle.cluster_core.specs.declared.cluster.Core.{Core}
 use Rattle.cluster_core.specs.declared.hand.Hand.{Hand}
 use Rattle.cluster_core.specs.declared.hand.Writer.{Writer}
 use Rattle.cluster_core.specs.declared.node.Node.{Node}
-use Rattle.cluster_core.proofs.NamesSteps.{create_refusal, create_stands}
-use Rattle.cluster_core.proofs.NamesGo.{file_anywhere}
+use Rattle.cluster_core.proofs.Named.{next_id_is}
+use Rattle.cluster_core.proofs.Journaled.{entered_stand, goes_stopped, serves, stopped_stand}
+use Rattle.cluster_core.proofs.NamesSteps.{create_refusal}
+use Rattle.cluster_core.proofs.Entries.{create_room}
+use Rattle.cluster_core.proofs.NamesGo.{file_anywhere, noted_as}
 use Rattle.cluster_core.proofs.Rows.{all_put}
-use Rattle.cluster_core.proofs.Standing.{stands_by, goes_refused, goes_short}
+use Rattle.cluster_core.proofs.Standing.{stands_by, stands_master_by, stands_stays_by, goes_refused, goes_short}
 use Rattle.cluster_core.proofs.Labelled.{absent_at, hands_added, there_at}
 use Rattle.cluster_core.proofs.Frames.{KnownOn, DoneOn, nodes_stay, files_stay}
 use Rattle.cluster_core.proofs.CloseGo.{by_actor}
@@ -186,7 +204,7 @@ module _ {S W : Type 0} (w : writes.Ghosts W) (K : Knowledge) (nodes : List (Nod
     reserved = tt;
     old = omega (arith, file);
     bytes = ap (λ n. (with_new next a K).bytes_of n) file ∙ ap (λ b. cond b (Some []) (K.bytes_of next)) (same_number next) ∙ ap Some (sym empty);
-    author = ap (λ n. (with_new next a K).author n) file ∙ ap (λ b. cond b (Some a) (K.author next)) (same_number next);
+    author = inl (ap (λ n. (with_new next a K).author n) file ∙ ap (λ b. cond b (Some a) (K.author next)) (same_number next));
   }
     where
       few : (bytes : List ℕ) (b : Option OpenBlock) → bytes ≡ [] → b ≡ None → length bytes + lacks bs b ≤ 65536 * bs
@@ -196,62 +214,73 @@ module _ {S W : Type 0} (w : writes.Ghosts W) (K : Knowledge) (nodes : List (Nod
 
 module _ {D S R W : Type 0} {d : disks.Ghosts D} (o : objects.Ghosts S R W) (r : reads.Ghosts R) (w : writes.Ghosts W) (old : Core D S R W d w) (i : ℕ) (within : i < 64) (l : Label) (p : Path) (at : ℕ) where
   -- the tests are the machine's
-  tests_are : (U : Setup) (V : Whole) (s : Stands d o r w U old V) → refusal U V.body (hands_of V (suc i)) (Event.Create l p WriteType.MustCache at) ≡ create_test old.area old.names (here old.workers.items old.hands.items (suc i) l at) p
+  tests_are : (U : Setup) (V : Whole) (s : Stands d o r w U old V) → refusal U V.body (hands_of V (suc i)) (Event.Create l p WriteType.MustCache at) ≡ create_test old.master (here old.workers.items old.hands.items (suc i) l at) p
   tests_are U V s =
       let H = hands_of V (suc i) in
-      create_refusal U old.names V.body H l p WriteType.MustCache at s.names
-      ∙ ap (λ n. create_test n old.names (record { taken = has_label H l; labels = length H; worker = at; configured = is_configured U at; live = is_live V.body at }) p) s.setup.area
-      ∙ ap (λ b. create_test old.area old.names (record { taken = b; labels = length H; worker = at; configured = is_configured U at; live = is_live V.body at }) p) (taken_is r w s.known old.workers.items old.names.next_id old.block V.hands old.hands.items s.hands i within l)
-      ∙ ap (λ n. create_test old.area old.names (record { taken = has_here old.hands.items (suc i) l; labels = n; worker = at; configured = is_configured U at; live = is_live V.body at }) p) (labels_is r w s.known old.workers.items old.names.next_id old.block V.hands old.hands.items s.hands i within)
-      ∙ ap (λ b. create_test old.area old.names (record { taken = has_here old.hands.items (suc i) l; labels = count_here old.hands.items (suc i); worker = at; configured = b; live = is_live V.body at }) p) (configured_is old.workers.items at s.setup)
-      ∙ ap (λ b. create_test old.area old.names (record { taken = has_here old.hands.items (suc i) l; labels = count_here old.hands.items (suc i); worker = at; configured = configured_here old.workers.items at; live = b }) p) (live_is old.workers.items V.body s.workers at)
+      create_refusal U old.master V.body H s.names l p WriteType.MustCache at s.setup.area
+      ∙ ap (λ b. create_test old.master (record { taken = b; labels = length H; worker = at; configured = is_configured U at; live = is_live V.body at }) p) (taken_is r w s.known old.workers.items old.master.kept.names.next_id old.block V.hands old.hands.items s.hands i within l)
+      ∙ ap (λ n. create_test old.master (record { taken = has_here old.hands.items (suc i) l; labels = n; worker = at; configured = is_configured U at; live = is_live V.body at }) p) (labels_is r w s.known old.workers.items old.master.kept.names.next_id old.block V.hands old.hands.items s.hands i within)
+      ∙ ap (λ b. create_test old.master (record { taken = has_here old.hands.items (suc i) l; labels = count_here old.hands.items (suc i); worker = at; configured = b; live = is_live V.body at }) p) (configured_is old.workers.items at s.setup)
+      ∙ ap (λ b. create_test old.master (record { taken = has_here old.hands.items (suc i) l; labels = count_here old.hands.items (suc i); worker = at; configured = configured_here old.workers.items at; live = b }) p) (live_is old.workers.items V.body s.workers at)
 
-  pub create_refused : (why : Refusal) → Some (Reply.Refused why) ≡ create_test old.area old.names (here old.workers.items old.hands.items (suc i) l at) p → Steps d o r w old old (suc i) (Event.Create l p WriteType.MustCache at) (Reply.Refused why)
+  pub create_refused : (why : Refusal) → Some (Reply.Refused why) ≡ create_test old.master (here old.workers.items old.hands.items (suc i) l at) p → Steps d o r w old old (suc i) (Event.Create l p WriteType.MustCache at) (Reply.Refused why)
   create_refused why h = λ U V s. goes_refused o r w U old old V (suc i) (Event.Create l p WriteType.MustCache at) (Reply.Refused why) s (tests_are U V s ∙ sym h) refl refl
 
-  module _ (new : Core D S R W d w) (b : new.block ≡ old.block) (a : new.area ≡ old.area) (k : new.workers ≡ old.workers) where
-    pub create_short : new.names ≡ old.names → ChangesAt old.hands.items new.hands.items i KeepsHands → Steps d o r w old new (suc i) (Event.Create l p WriteType.MustCache at) (Reply.Refused Refusal.Memory)
-    create_short n kept = λ U V s. goes_short o r w U old new V (suc i) (Event.Create l p WriteType.MustCache at) (stands_by o r w U new V s.known old.block old.area old.names old.workers.items new.hands.items b a n (ap (λ x. x.items) k) refl (record {
-      setup = s.setup;
-      named = s.names;
-      workers = s.workers;
-      hands = hands_kept r w s.known old.workers.items old.names.next_id old.block i V.hands old.hands.items new.hands.items s.hands within kept;
-      files = s.files;
-      objects = s.objects;
-    })) refl
+  module _ (new : Core D S R W d w) (b : new.block ≡ old.block) (k : new.workers ≡ old.workers) where
+    kept_hands : (U : Setup) (V : Whole) (s : Stands d o r w U old V) → ChangesAt old.hands.items new.hands.items i KeepsHands → HandsStand r w s.known old.workers.items old.master.kept.names.next_id old.block V.hands new.hands.items
+    kept_hands U V s kept = hands_kept r w s.known old.workers.items old.master.kept.names.next_id old.block i V.hands old.hands.items new.hands.items s.hands within kept
 
-    pub create_done : 0 < at → create_test old.area old.names (here old.workers.items old.hands.items (suc i) l at) p ≡ None → new.names ≡ with_file p old.names
-        → ChangesAt old.hands.items new.hands.items i (AddsHand l (Hand.Writing (new_writer old.names.next_id at (started_here old.workers.items at) old.block))) → Steps d o r w old new (suc i) (Event.Create l p WriteType.MustCache at) Reply.Done
-    create_done some passes n added = λ U V s.
+    pub create_short : Stays d old.master new.master → ChangesAt old.hands.items new.hands.items i KeepsHands → Steps d o r w old new (suc i) (Event.Create l p WriteType.MustCache at) (Reply.Refused Refusal.Memory)
+    create_short stays kept = λ U V s. goes_short o r w U old new V (suc i) (Event.Create l p WriteType.MustCache at) (stands_stays_by o r w U old new V s b k (kept_hands U V s kept) stays) refl
+
+    -- the entry with the next number of the state
+    abbrev entry : Entry
+    entry = Entry.Create old.master.kept.names.next_id p
+
+    pub create_stops : create_test old.master (here old.workers.items old.hands.items (suc i) l at) p ≡ None → HasStopped d 4 (entered entry (standing_of old.master)) old.master new.master → ChangesAt old.hands.items new.hands.items i KeepsHands → Steps d o r w old new (suc i) (Event.Create l p WriteType.MustCache at) (Reply.Refused Refusal.JournalFault)
+    create_stops passes h kept = λ U V s.
+        let doubt : Option Doubt = Some (Doubt.InChange (Change.Create V.body.names.next_id p) []) in
+        goes_stopped o r w U old new V (suc i) (Event.Create l p WriteType.MustCache at) noted_as 4 (stopped_with doubt new.master.journal.here.fuse V.body) (hands_of V (suc i)) (tests_are U V s ∙ passes) refl refl refl refl s.names h.cause h.goes_on.fuse refl refl
+        (stands_master_by o r w U old new V (suc i) (stopped_with doubt new.master.journal.here.fuse V.body).master s b k (kept_hands U V s kept) h.goes_on.limit h.names (stopped_stand d old.master new.master V.body s.names 4 (entered entry (standing_of old.master)) doubt h))
+
+    pub create_done : 0 < at → create_test old.master (here old.workers.items old.hands.items (suc i) l at) p ≡ None → Entered d entry old.master new.master → counts_in entry (names_of old.master) ≡ true
+        → ChangesAt old.hands.items new.hands.items i (AddsHand l (Hand.Writing (new_writer old.master.kept.names.next_id at (started_here old.workers.items at) old.block))) → Steps d o r w old new (suc i) (Event.Create l p WriteType.MustCache at) Reply.Done
+    create_done some passes h counts added = λ U V s.
         let H = hands_of V (suc i) in
         let B = journal_if (create_change V.body p) V.body in
         let holder : Holder = (suc i, l) in
-        let next = old.names.next_id in
+        let next = old.master.kept.names.next_id in
         let nodes = old.workers.items in
         let x : Writer W = new_writer next at (started_here nodes at) old.block in
         let m : machine.Writer = record { file = V.body.names.next_id; bs = U.block; store = store_of V.body.names p; taken = []; kind = WriteType.MustCache; worker = at; start = (worker V.body at).start; block = None; broken = false } in
         let G = add_hand l (machine.Hand.Writing m) H in
         let after = put_back V (suc i) B G in
         let N = with_new next holder s.known in
+        let stood = entered_stand d old.master new.master V.body s.names (Change.Create next p) h counts refl s.names.unlocked in
+        let named : NamesStand new.master B = subst (λ (n : ℕ). NamesStand new.master (journal (Change.Create n p) V.body)) (sym (next_id_is s.names)) stood in
+        let is : names_of new.master ≡ apply (Change.Create next p) (names_of old.master) = sym stood.names ∙ ap (apply (Change.Create next p)) s.names.names in
+        let more : new.master.kept.names.next_id ≡ next + 1 = let e : new.master.kept.names.next_id ≡ max next (next + 1) = ap (λ (n : Names). n.next_id) is in omega (arith, e) in
+        let rows : new.master.kept.names.nodes ≡ put_node p (machineNode.IsFile (new_file next)) old.master.kept.names.nodes = ap (λ (n : Names). n.nodes) is in
         record {
           after = after;
           rise = no_rise;
           made = create_change V.body p;
-          stands = stands_by o r w U new after N old.block old.area (with_file p old.names) nodes new.hands.items b a n (ap (λ x. x.items) k) refl (record {
+          stands = stands_by o r w U new after N old.block old.master.journal.limit new.master nodes new.hands.items b h.goes_on.limit refl (ap (λ x. x.items) k) refl (record {
             setup = s.setup;
-            named = create_stands old.names V.body p s.names;
+            named = named;
             workers = record { rows = s.workers.rows; registrations = s.workers.registrations; first = s.workers.first };
-            hands = hands_added r w s.known N nodes nodes next (next + 1) old.block i l (leaves_new s.known next holder nodes) V.hands old.hands.items new.hands.items s.hands within (Hand.Writing x) (machine.Hand.Writing m)
+            hands = subst (λ (n : ℕ). HandsStand r w N nodes n old.block after.hands new.hands.items) (sym more)
+                (hands_added r w s.known N nodes nodes next (next + 1) old.block i l (leaves_new s.known next holder nodes) V.hands old.hands.items new.hands.items s.hands within (Hand.Writing x) (machine.Hand.Writing m)
                 (absent_at r w s.known nodes next old.block V.hands old.hands.items s.hands i within l (add_absent i l (Hand.Writing x) old.hands.items new.hands.items added)) added
-                (new_fits w s.known nodes next old.block holder at (started_here nodes at) m some s.names.next_id s.setup.block refl refl (started_is nodes V.body s.workers at) refl refl refl);
-            files = files_new s.known next holder old.block old.names.nodes V.body.contents s.files p;
-            objects = nodes_stay s.known N next (next + 1) old.block (known_new s.known next holder) o nodes s.objects;
+                (new_fits w s.known nodes next old.block holder at (started_here nodes at) m some (next_id_is s.names) s.setup.block refl refl (started_is nodes V.body s.workers at) refl refl refl));
+            files = subst (λ (n : ℕ). FilesStand N n old.block new.master.kept.names.nodes V.body.contents) (sym more) (subst (λ (k : List NodeRow). FilesStand N (next + 1) old.block k V.body.contents) (sym rows) (files_new s.known next holder old.block old.master.kept.names.nodes V.body.contents s.files p));
+            objects = subst (λ (n : ℕ). NodesStand o N n old.block nodes) (sym more) (nodes_stay s.known N next (next + 1) old.block (known_new s.known next holder) o nodes s.objects);
           });
           rises = Rises.Nothing;
           step = record {
             body = B;
             hands = G;
-            step = Step.Accepted (fault_free 0) (tests_are U V s ∙ passes) refl (ap (λ fuse. fuse_serves fuse 4) s.names.unfused) refl refl refl;
+            step = Step.Accepted (fault_free 0) (tests_are U V s ∙ passes) refl (subst (λ f. IsTrue (fuse_serves f 4)) (sym s.names.fuse) (serves 4 old.master.journal.here.fuse h.enough)) refl refl refl;
             after = refl;
           };
         }
@@ -261,19 +290,22 @@ module _ {D S R W : Type 0} {d : disks.Ghosts D} (o : objects.Ghosts S R W) (r :
 module _ {D S R W : Type 0} {d : disks.Ghosts D} (o : objects.Ghosts S R W) (r : reads.Ghosts R) (w : writes.Ghosts W) (old : Core D S R W d w) (who : ℕ) (actor : is_actor who ≡ true) (l : Label) (p : Path) (at : ℕ) where
   -- what the tests answer, and where an event goes
   abbrev Tested : ℕ → Option Reply → Type 0
-  Tested v reply = create_test old.area old.names (here old.workers.items old.hands.items v l at) p ≡ reply
+  Tested v reply = create_test old.master (here old.workers.items old.hands.items v l at) p ≡ reply
 
   abbrev Leads : Core D S R W d w → Reply → ℕ → Type 0
   Leads new reply v = Steps d o r w old new v (Event.Create l p WriteType.MustCache at) reply
 
-  pub refused_by : (why : Refusal) → Some (Reply.Refused why) ≡ create_test old.area old.names (here old.workers.items old.hands.items who l at) p → Leads old (Reply.Refused why) who
+  pub refused_by : (why : Refusal) → Some (Reply.Refused why) ≡ create_test old.master (here old.workers.items old.hands.items who l at) p → Leads old (Reply.Refused why) who
   refused_by why h = by_actor (λ v. Tested v (Some (Reply.Refused why)) → Leads old (Reply.Refused why) v) (λ i within k. create_refused o r w old i within l p at why (sym k)) who actor (sym h)
 
-  module _ (new : Core D S R W d w) (b : new.block ≡ old.block) (a : new.area ≡ old.area) (k : new.workers ≡ old.workers) where
-    pub short_by : new.names ≡ old.names → ChangesAt old.hands.items new.hands.items (pred who) KeepsHands → Leads new (Reply.Refused Refusal.Memory) who
-    short_by n kept = by_actor (λ v. ChangesAt old.hands.items new.hands.items (pred v) KeepsHands → Leads new (Reply.Refused Refusal.Memory) v) (λ i within. create_short o r w old i within l p at new b a k n) who actor kept
-
-    pub done_by : 0 < at → None ≡ create_test old.area old.names (here old.workers.items old.hands.items who l at) p → new.names ≡ with_file p old.names
-        → ChangesAt old.hands.items new.hands.items (pred who) (AddsHand l (Hand.Writing (new_writer old.names.next_id at (started_here old.workers.items at) old.block))) → Leads new Reply.Done who
-    done_by some passes n added = by_actor (λ v. Tested v None → ChangesAt old.hands.items new.hands.items (pred v) (AddsHand l (Hand.Writing (new_writer old.names.next_id at (started_here old.workers.items at) old.block))) → Leads new Reply.Done v)
-        (λ i within passed. create_done o r w old i within l p at new b a k some passed n) who actor (sym passes) added
+  module _ (new : Core D S R W d w) (b : new.block ≡ old.block) (k : new.workers ≡ old.workers) (some : 0 < at) (passes : None ≡ create_test old.master (here old.workers.items old.hands.items who l at) p) where
+    -- whatever came of the entry
+    pub create_steps : {T : Type 0} (result : Result T AppendFault) → Enters d (Entry.Create old.master.kept.names.next_id p) old.master new.master result → OnOk result (counts_in (Entry.Create old.master.kept.names.next_id p) (names_of old.master) ≡ true)
+        → OnOk result (ChangesAt old.hands.items new.hands.items (pred who) (AddsHand l (Hand.Writing (new_writer old.master.kept.names.next_id at (started_here old.workers.items at) old.block)))) → OnErr result (ChangesAt old.hands.items new.hands.items (pred who) KeepsHands) → Leads new (done_or result) who
+    create_steps (Ok x) h counts added kept = by_actor (λ v. Tested v None → ChangesAt old.hands.items new.hands.items (pred v) (AddsHand l (Hand.Writing (new_writer old.master.kept.names.next_id at (started_here old.workers.items at) old.block))) → Leads new Reply.Done v)
+        (λ i within passed. create_done o r w old i within l p at new b k some passed h.done counts) who actor (sym passes) added
+    create_steps (Err faults.Failed) h counts added kept = by_actor (λ v. Tested v None → ChangesAt old.hands.items new.hands.items (pred v) KeepsHands → Leads new (Reply.Refused Refusal.JournalFault) v)
+        (λ i within passed. create_stops o r w old i within l p at new b k passed (h.stopped refl)) who actor (sym passes) kept
+    create_steps (Err faults.Memory) h counts added kept = by_actor (λ v. ChangesAt old.hands.items new.hands.items (pred v) KeepsHands → Leads new (Reply.Refused Refusal.Memory) v)
+        (λ i within. create_short o r w old i within l p at new b k (h.short refl)) who actor kept
+    create_steps (Err faults.Full) h counts added kept = absurd (create_room old.master p (here old.workers.items old.hands.items who l at) passes (h.full refl))

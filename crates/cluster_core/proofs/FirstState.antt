@@ -1,5 +1,5 @@
 -- A core that begins stands for each state that a play begins with.
-use Rattle.std.proofs.Common.{◌≡◌, ℕ, zero, suc, pred, ◌<◌, true, false, ◌&&◌, List, [], ◌∷◌, map, length, get_or, nat_lt, Option, Some, None, option_map, refl, sym, ap, ◌∙◌, subst, arith}
+use Rattle.std.proofs.Common.{◌≡◌, ◌⊎◌, inl, inr, not, Ok, ℕ, zero, suc, pred, ◌<◌, true, false, ◌&&◌, List, [], ◌∷◌, map, length, get_or, nat_lt, Option, Some, None, option_map, refl, sym, ap, ◌∙◌, subst, arith}
 use Rattle.std.specs.Prelude.{IsSomeAnd, IsSome, slice_get}
 use Rattle.std.specs.Global.{Vec}
 use Rattle.std.specs.List.{All}
@@ -23,13 +23,20 @@ use Rattle.cluster_core.specs.LabelsView.{LabelsView}
 use Rattle.cluster_core.specs.Hands.{Matches}
 use Rattle.cluster_core.specs.HandFits.{HandFits}
 use Rattle.cluster_core.specs.Knowledge.{Knowledge}
-use Rattle.cluster_core.specs.Names.{first_names}
+use Rattle.fs_model.specs.State.{Names}
+use Rattle.fs_model.specs.Opening.{fresh_names}
+use Rattle.outside.specs.Fuse.{Fusing}
+use Rattle.journal_entry.proofs.CheckpointLengths.{length-checkpoint}
+use Rattle.journal_disk.specs.Areas.{journal_of}
+use Rattle.journal_disk.specs.Opening.{Tell}
+use Rattle.master_node.specs.Mastering.{Mastering, Standing, names_of, standing_of}
+use Rattle.master_node.specs.Recovery.{IsAgain, IsFirst, IsOver, first_standing}
+use Rattle.cluster_core.specs.NamesStand.{NamesStand}
 use Rattle.cluster_core.specs.Nodes.{node_row}
 use Rattle.cluster_core.specs.Stands.{Stands, WorkersStand, HandsStand, FilesStand, FileFits, NodesStand, CopyStands, TierTells, content_row}
 use Rattle.cluster_core.specs.declared.node.Node.{Node}
 use Rattle.cluster_core.specs.declared.hand.Hand.{Hand}
 use Rattle.cluster_core.specs.declared.cluster.Core.{Core}
-use Rattle.cluster_core.proofs.NamesSteps.{first_stands}
 use Rattle.cluster_core.proofs.Places.{second_is}
 use Rattle.cluster_core.proofs.Standing.{stands_by}
 
@@ -94,6 +101,27 @@ books_fresh (t ∷ tiers) = All-cons IsFresh (fresh_book t) (map fresh_book tier
 
 -- ---- the whole
 
+-- ---- the names
+
+-- over fresh areas a master is opened with its first checkpoint
+pub fresh_first : {D : Type 0} (d : disks.Ghosts D) (U : Setup) (a b : Fusing D) (m : Mastering D) → IsOver d U a b m → Tell d a b → journal_of (d.history a.disk).now.held (d.history b.disk).now.held ≡ Ok None → standing_of m ≡ first_standing U
+fresh_first d U a b m over tell none = by over.from
+  where
+    by : IsAgain d a b m ⊎ IsFirst d U a b m → standing_of m ≡ first_standing U
+    by (inl again) = let found = again.found tell in absurd (let never = sym none ∙ found.1 in cc)
+    by (inr first) = first.standing
+
+-- it stands for the names of each state that a play begins with
+first_stands : {D : Type 0} (U : Setup) (V : Whole) → Begins U V → (m : Mastering D) → standing_of m ≡ first_standing U → m.journal.failed ≡ false → m.journal.here.fuse ≡ None → NamesStand m V.body
+first_stands U V b m standing up unfused = record {
+  names = ap (λ (A : State). A.names) b.body ∙ sym (ap (λ (s : Standing). s.names) standing);
+  gate = ap (λ (A : State). A.master.gate) b.body ∙ sym (length-checkpoint (fresh_names U)) ∙ sym (ap (λ (s : Standing). s.gate) standing);
+  generation = ap (λ (A : State). A.master.generation) b.body ∙ sym (ap (λ (s : Standing). s.generation) standing);
+  fuse = ap (λ (A : State). A.master.fuse) b.body ∙ sym unfused;
+  down = ap (λ (A : State). not A.master.up) b.body ∙ sym up;
+  unlocked = ap (λ (A : State). A.names.locks) b.body;
+}
+
 -- nothing is known of files
 abbrev nothing : Knowledge
 nothing = record { bytes_of = λ n. None; author = λ n. None; owner = λ w n. None }
@@ -144,15 +172,16 @@ module _ {S R W : Type 0} (o : objects.Ghosts S R W) (r : reads.Ghosts R) (w : w
 
 module _ {D S R W : Type 0} {d : disks.Ghosts D} (o : objects.Ghosts S R W) (r : reads.Ghosts R) (w : writes.Ghosts W) (U : Setup) (V : Whole) (b : Begins U V) where
   -- the core stands for the state
-  pub begin_stands : (m : Media D S) (C : Core D S R W d w) → C.block ≡ U.block → C.area ≡ U.area → C.names ≡ first_names U
+  pub begin_stands : (m : Media D S) (C : Core D S R W d w) → C.block ≡ U.block → C.master.journal.limit ≡ U.area → standing_of C.master ≡ first_standing U → C.master.journal.failed ≡ false → C.master.journal.here.fuse ≡ None
       → map (λ n. n.book) C.workers.items ≡ map fresh_book U.tiers → map node_row C.workers.items ≡ first_runs (map idle_row (map fresh_book U.tiers)) → map (λ n. n.tiers) C.workers.items ≡ m.tiers.items
       → length C.hands.items ≡ 64 → All HasNone C.hands.items → TiersEmpty o m → Stands d o r w U C V
-  begin_stands m C block area names books rows tiers actors none empty =
-      stands_by o r w U C V nothing U.block U.area (first_names U) C.workers.items C.hands.items block area names refl refl (record {
+  begin_stands m C block area standing up unfused books rows tiers actors none empty =
+      let names : names_of C.master ≡ fresh_names U = ap (λ (s : Standing). s.names) standing in
+      stands_by o r w U C V nothing U.block U.area C.master C.workers.items C.hands.items block area refl refl refl (record {
         setup = record { block = refl; area = refl; tiers = sym (map-id U.tiers) ∙ sym (maps_twice (λ (x : BookView). x.sizes) fresh_book U.tiers) ∙ ap (map (λ (x : BookView). x.sizes)) (sym books) ∙ maps_twice (λ (x : BookView). x.sizes) (λ (n : Node S). n.book) C.workers.items };
-        named = first_stands U V b;
+        named = first_stands U V b C.master standing up unfused;
         workers = workers_stand o r w U V b C.workers.items rows;
-        hands = hands_stand o r w U V b C.workers.items C.hands.items actors none;
-        files = files_stand o r w U V b;
-        objects = nodes_stand o r w U V b m C.workers.items books tiers empty;
+        hands = subst (λ (N : Names). HandsStand r w nothing C.workers.items N.next_id U.block V.hands C.hands.items) (sym names) (hands_stand o r w U V b C.workers.items C.hands.items actors none);
+        files = subst (λ (N : Names). FilesStand nothing N.next_id U.block N.nodes V.body.contents) (sym names) (files_stand o r w U V b);
+        objects = subst (λ (N : Names). NodesStand o nothing N.next_id U.block C.workers.items) (sym names) (nodes_stand o r w U V b m C.workers.items books tiers empty);
       })

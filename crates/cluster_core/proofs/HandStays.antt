@@ -1,5 +1,5 @@
 -- What other labels have fits still after an event of one label.
-use Rattle.std.proofs.Common.{◌≡◌, ℕ, false, List, Option, Some, None, sym, ap, ◌∙◌, arith}
+use Rattle.std.proofs.Common.{◌≡◌, inl, inr, ℕ, Bool, false, List, Option, Some, None, sym, ap, ◌∙◌, arith}
 use Rattle.std.specs.Prelude.{IfSome, unwrap_or}
 use Rattle.fs_model.specs.Words.{name_eq}
 use Rattle.fs_model.specs.State as machine
@@ -10,7 +10,7 @@ use Rattle.cluster_core.specs.declared.hand.Hand.{Hand}
 use Rattle.cluster_core.specs.declared.hand.Stream.{Stream}
 use Rattle.cluster_core.specs.declared.hand.Writer.{Writer}
 use Rattle.cluster_core.specs.Knowledge.{Knowledge, Holder, HasRoomOf, Leaves}
-use Rattle.cluster_core.specs.HandFits.{StreamFits, WriterFits, HandFits}
+use Rattle.cluster_core.specs.HandFits.{Writes, StreamFits, WriterFits, HandFits}
 use Rattle.cluster_core.proofs.SameLabels.{like_itself}
 
 -- what is there twice is the same
@@ -50,9 +50,18 @@ module _ {S R W : Type 0} (r : reads.Ghosts R) (w : writes.Ghosts W) (K N : Know
     reserved_stays worker started None h = h
     reserved_stays worker started (Some n) h = (left.owners worker n a h.0 other, left.rooms worker started n bs a h.0 other h.1)
 
+    -- the file isn't another's
+    not_other : (id : ℕ) (broken : Bool) → Writes K id a broken → K.author id ≡ Some b → ⊥
+    not_other id broken (inl mine) e = other (some_same a b (sym mine ∙ e))
+    not_other id broken (inr none) e = let never : None ≡ Some b = sym none.1 ∙ e in absurd (cc)
+
+    writes_on : (id : ℕ) (broken : Bool) → N.author id ≡ K.author id → Writes K id a broken → Writes N id a broken
+    writes_on id broken same (inl mine) = inl (same ∙ mine)
+    writes_on id broken same (inr none) = inr (none.0, same ∙ none.1)
+
     writer_stays : (m : machine.Writer) (x : Writer W) → WriterFits w K old before bs a m x → WriterFits w N new now bs a m x
     writer_stays m x f =
-        let kept = left.files m.file f.old (λ e. other (some_same a b (sym f.author ∙ e))) in
+        let kept = left.files m.file f.old (not_other m.file x.broken f.author) in
         record {
           file = f.file;
           bs = f.bs;
@@ -68,7 +77,7 @@ module _ {S R W : Type 0} (r : reads.Ghosts R) (w : writes.Ghosts W) (K N : Know
           reserved = reserved_stays x.worker x.started x.room f.reserved;
           old = omega (arith, f.old, left.later);
           bytes = kept.0 ∙ f.bytes;
-          author = kept.1 ∙ f.author;
+          author = writes_on m.file x.broken kept.1 f.author;
         }
 
     pub hand_stays : (h : Option machine.Hand) (t : Option (Hand R W)) → HandFits r w K old before bs a h t → HandFits r w N new now bs a h t

@@ -23,7 +23,7 @@ use Rattle.cluster_core.proofs.Standing.{stands_by}
 
 -- what two calls leave
 pub kept_twice : {D S R W : Type 0} {d : disks.Ghosts D} {w : writes.Ghosts W} (old mid new : Core D S R W d w) → KeepsRest old mid → KeepsRest mid new → KeepsRest old new
-kept_twice old mid new a b = record { block = b.block ∙ a.block; area = b.area ∙ a.area; names = b.names ∙ a.names; areas = b.areas ∙ a.areas; stores = b.stores ∙ a.stores }
+kept_twice old mid new a b = record { block = b.block ∙ a.block; master = b.master ∙ a.master; stores = b.stores ∙ a.stores }
 
 -- where each label of an actor has what it had, all fit still
 pub hands_kept : {S R W : Type 0} (r : reads.Ghosts R) (w : writes.Ghosts W) (K : Knowledge) (nodes : List (Node S)) (next bs i : ℕ) (all : List Hands) (labels changed : List (LabelsView (Hand R W))) → HandsStand r w K nodes next bs all labels → i < 64 → ChangesAt labels changed i KeepsHands → HandsStand r w K nodes next bs all changed
@@ -34,11 +34,11 @@ hands_kept r w K nodes next bs i all labels changed was within change =
 module _ {D S R W : Type 0} {d : disks.Ghosts D} (o : objects.Ghosts S R W) (r : reads.Ghosts R) (w : writes.Ghosts W) (U : Setup) (V : Whole) where
   -- and so the core stands
   pub stands_kept : (old new : Core D S R W d w) (i : ℕ) → i < 64 → KeepsRest old new → new.workers ≡ old.workers → ChangesAt old.hands.items new.hands.items i KeepsHands → Stands d o r w U old V → Stands d o r w U new V
-  stands_kept old new i within rest workers change s = stands_by o r w U new V s.known old.block old.area old.names old.workers.items new.hands.items rest.block rest.area rest.names (ap (λ v. v.items) workers) refl (record {
+  stands_kept old new i within rest workers change s = stands_by o r w U new V s.known old.block old.master.journal.limit old.master old.workers.items new.hands.items rest.block (ap (λ k. k.journal.limit) rest.master) rest.master (ap (λ v. v.items) workers) refl (record {
     setup = s.setup;
     named = s.names;
     workers = s.workers;
-    hands = hands_kept r w s.known old.workers.items old.names.next_id old.block i V.hands old.hands.items new.hands.items s.hands within change;
+    hands = hands_kept r w s.known old.workers.items old.master.kept.names.next_id old.block i V.hands old.hands.items new.hands.items s.hands within change;
     files = s.files;
     objects = s.objects;
   })

@@ -7,7 +7,12 @@ pub mod NamesSteps
 pub mod Rooms
 pub mod HandStays
 pub mod Actors
+pub mod Sides
+pub mod Named
+pub mod Journaled
 pub mod Standing
+pub mod Crashed
+pub mod Entries
 pub mod Rows
 pub mod NamesGo
 pub mod Labelled
@@ -25,6 +30,7 @@ pub mod RoomTests
 pub mod CommitGo
 pub mod CommitParts
 pub mod CreateGo
+pub mod CheckpointGo
 pub mod PutGo
 pub mod LiveHere
 pub mod StatGo
@@ -53,6 +59,7 @@ pub mod DoneFiles
 pub mod DoneTests
 pub mod DoneGo
 pub mod DoneSteps
+pub mod FinishGo
 pub mod DonePlace
 pub mod MediaStay
 pub mod SteadyStay

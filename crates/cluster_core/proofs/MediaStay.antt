@@ -9,7 +9,9 @@ use Rattle.outside.specs.declared.objects.Objects as objects
 use Rattle.outside.specs.declared.objects.ObjectRead as reads
 use Rattle.outside.specs.declared.objects.ObjectWrite as writes
 use Rattle.tier_book.specs.Rows.{fitting}
-use Rattle.cluster_core.specs.Media.{TiersStay, NodesStay, MediaStays}
+use Rattle.journal_disk.specs.Journaling.{GoesOn, Journaling, StaysAs, area_0, area_1}
+use Rattle.master_node.specs.Mastering.{Mastering}
+use Rattle.cluster_core.specs.Media.{AreasStay, TiersStay, NodesStay, MediaStays}
 use Rattle.cluster_core.specs.Tiers.{ChangesAt, Keeps}
 use Rattle.cluster_core.specs.Nodes.{FreesRoom}
 use Rattle.cluster_core.specs.Here.{runs_here}
@@ -22,6 +24,37 @@ use Rattle.cluster_core.specs.declared.hand.Hand.{Hand}
 use Rattle.cluster_core.specs.declared.hand.Stream.{Stream}
 use Rattle.cluster_core.specs.declared.reading.Found.{Found}
 use Rattle.cluster_core.specs.declared.cluster.Core.{Core}
+use Rattle.cluster_core.proofs.Sides.{same_sides}
+
+-- ---- areas
+
+module _ {D : Type 0} (d : disks.Ghosts D) where
+  -- the same master
+  pub areas_same : {old new : Mastering D} → new ≡ old → AreasStay d old.journal new.journal
+  areas_same {old} {new} same = subst (λ m. AreasStay d old.journal m.journal) (sym same) (record { tells_0 = refl; tells_1 = refl; own_0 = omega arith; own_1 = omega arith; limit = refl })
+
+  -- one call after another
+  pub areas_then : {a b c : Journaling D} → AreasStay d a b → AreasStay d b c → AreasStay d a c
+  areas_then {a} {b} {c} one two = record {
+    tells_0 = two.tells_0 ∙ one.tells_0;
+    tells_1 = two.tells_1 ∙ one.tells_1;
+    own_0 = let x = one.own_0 in let y = two.own_0 in omega (arith, x, y);
+    own_1 = let x = one.own_1 in let y = two.own_1 in omega (arith, x, y);
+    limit = two.limit ∙ one.limit;
+  }
+
+  -- calls of the journal
+  pub areas_go : {old new : Journaling D} → GoesOn d old new → AreasStay d old new
+  areas_go h = record { tells_0 = h.tells_0; tells_1 = h.tells_1; own_0 = h.own_0; own_1 = h.own_1; limit = h.limit }
+
+  -- none of them
+  pub areas_stay : {old new : Journaling D} → StaysAs d old new → AreasStay d old new
+  areas_stay {old} {new} h =
+      let tells = same_sides d h d.tells h.tells_here h.tells_there in
+      let own = same_sides d h d.faults h.own_here h.own_there in
+      let x = own.0 in
+      let y = own.1 in
+      record { tells_0 = tells.0; tells_1 = tells.1; own_0 = omega (arith, x); own_1 = omega (arith, y); limit = ap (λ (j : Journaling D). j.limit) h.rest }
 
 -- ---- lists
 
@@ -139,6 +172,7 @@ module _ {S R W : Type 0} (o : objects.Ghosts S R W) where
 
     seek_stays : (rows : List NodeRow) (bs : ℕ) (old new : List (Node S)) (x y : Stream R) (gave : Found) → SeeksOf o r rows bs old new x y gave → NodesStay o old new
     seek_stays rows bs old new x y Found.BadLabel h = absurd h
+    seek_stays rows bs old new x y Found.Stopped h = nodes_same h.1
     seek_stays rows bs old new x y Found.NotFound h = nodes_same h.2
     seek_stays rows bs old new x y Found.End h = nodes_same h.4
     seek_stays rows bs old new x y (Found.Still v t) h = nodes_same h.4
@@ -155,20 +189,24 @@ module _ {S R W : Type 0} (o : objects.Ghosts S R W) where
   -- ---- cores
 
   module _ {D : Type 0} {d : disks.Ghosts D} {w : writes.Ghosts W} where
-    -- neither areas nor stores nor workers changed
-    pub media_same : {old new : Core D S R W d w} → new.areas ≡ old.areas → new.stores ≡ old.stores → new.workers ≡ old.workers → MediaStays d o old new
+    -- neither stores nor workers changed
+    pub media_same : {old new : Core D S R W d w} → AreasStay d old.master.journal new.master.journal → new.stores ≡ old.stores → new.workers ≡ old.workers → MediaStays d o old new
     media_same areas stores workers = record { areas = areas; stores = stores; workers = nodes_same (ap (λ v. v.items) workers) }
 
+    -- nothing changed
+    pub media_itself : {old : Core D S R W d w} → MediaStays d o old old
+    media_itself {old} = let same : old.master ≡ old.master = refl in media_same (areas_same d same) refl refl
+
     pub media_kept : {old new : Core D S R W d w} → KeepsRest old new → new.workers ≡ old.workers → MediaStays d o old new
-    media_kept rest workers = media_same rest.areas rest.stores workers
+    media_kept rest workers = media_same (areas_same d rest.master) rest.stores workers
 
     -- one call after another
     pub media_then : {a b c : Core D S R W d w} → MediaStays d o a b → MediaStays d o b c → MediaStays d o a c
-    media_then one two = record { areas = two.areas ∙ one.areas; stores = two.stores ∙ one.stores; workers = nodes_then one.workers two.workers }
+    media_then one two = record { areas = areas_then d one.areas two.areas; stores = two.stores ∙ one.stores; workers = nodes_then one.workers two.workers }
 
     -- one worker changed
     media_by : {old new : Core D S R W d w} {i : ℕ} {P : Node S → Node S → Type 0} → KeepsRest old new → ChangesAt old.workers.items new.workers.items i P → ((n m : Node S) → P n m → TiersStay o n m) → MediaStays d o old new
-    media_by rest change gives = record { areas = rest.areas; stores = rest.stores; workers = nodes_at change gives }
+    media_by rest change gives = record { areas = areas_same d rest.master; stores = rest.stores; workers = nodes_at change gives }
 
     -- a worker made a reservation
     pub media_opened : {old new : Core D S R W d w} (i len : ℕ) (room : Option ℕ) → KeepsRest old new → IsSomeAnd room (λ n. ChangesAt old.workers.items new.workers.items i (Spaces o n len)) → MediaStays d o old new
@@ -205,4 +243,4 @@ module _ {S R W : Type 0} (o : objects.Ghosts S R W) where
     module _ (r : reads.Ghosts R) where
       -- a source was sought
       pub media_sought : {old new : Core D S R W d w} (rows : List NodeRow) (bs : ℕ) (h k : Hand R W) (gave : Found) → KeepsRest old new → HandSeeks o r rows bs old.workers.items new.workers.items h k gave → MediaStays d o old new
-      media_sought {old} {new} rows bs h k gave rest found = record { areas = rest.areas; stores = rest.stores; workers = hand_stays r rows bs old.workers.items new.workers.items h k gave found }
+      media_sought {old} {new} rows bs h k gave rest found = record { areas = areas_same d rest.master; stores = rest.stores; workers = hand_stays r rows bs old.workers.items new.workers.items h k gave found }

@@ -1,31 +1,27 @@
--- The events on names, where the names stand: their tests, and the state after them.
-use Rattle.std.proofs.Common.{◌≡◌, ℕ, ◌+◌, not, ◌&&◌, List, [], ◌∷◌, refl, sym, ap, ◌∙◌, arith, nat_eq, nat_le, length}
-use Rattle.std.specs.Prelude.{Option, None, Some, is_some}
+-- The tests of the events on names, where the master stands.
+use Rattle.std.proofs.Common.{◌≡◌, ℕ, ◌+◌, not, ◌&&◌, List, [], ◌∷◌, refl, sym, ap, ◌∙◌, nat_eq, nat_le, length}
+use Rattle.std.specs.Prelude.{Option, None, Some, is_some, option_and_then, ◌≤◌, Bool, true, false}
+use Rattle.std.proofs.lemmas.Bool.{lt-ltb, ltb-false}
+use Rattle.fs_model.specs.declared.reply.Refusal.{Refusal}
 use Rattle.fs_model.specs.declared.path.Path.{Path}
 use Rattle.fs_model.specs.declared.label.Label.{Label}
 use Rattle.fs_model.specs.declared.setup.Setup.{Setup}
 use Rattle.fs_model.specs.declared.event.Event.{Event}
 use Rattle.fs_model.specs.declared.event.WriteType.{WriteType}
 use Rattle.fs_model.specs.declared.reply.Reply.{Reply}
-use Rattle.fs_model.specs.declared.reply.Refusal.TheVariants.{Exists, NoWorker, BadLabel}
+use Rattle.fs_model.specs.declared.reply.Refusal.TheVariants.{Exists, NotDirectory, NoWorker, BadLabel, Limit}
 use Rattle.fs_model.specs.declared.reply.Which.{Which}
-use Rattle.fs_model.specs.declared.reply.Stored.{Stored}
-use Rattle.fs_model.specs.declared.change.Change.{Change}
 use Rattle.fs_model.specs.Words.{first, path_len}
-use Rattle.fs_model.specs.State.{State, Whole, Node, NodeRow, Hands}
-use Rattle.fs_model.specs.Changes.{put_node, key_len}
-use Rattle.fs_model.specs.NodesEvents.{checkpoint_gate}
-use Rattle.fs_model.specs.Opening.{fresh_names}
-use Rattle.fs_model.specs.Begins.{Begins}
-use Rattle.fs_model.specs.Lookups.{find_node, walk_above, has_label, is_configured, is_live}
+use Rattle.fs_model.specs.State.{State, Names, Hands}
+use Rattle.fs_model.specs.Lookups.{file_in, find_node, has_node, walk_above, walk_nodes, has_label, is_configured, is_live}
 use Rattle.fs_model.specs.Tests.{refuse, walk_fault, past, ◌only_if◌}
 use Rattle.fs_model.specs.Machine.{refusal}
-use Rattle.fs_model.specs.NamesOutcomes.{mkdir_outcome}
-use Rattle.fs_model.specs.Updates.{spend, journal, journal_if}
-use Rattle.fs_model.specs.NamesEvents.{create_change}
-use Rattle.cluster_core.specs.Names.{NamesView, first_names, place_test, is_full, is_numbered_out, is_short, with_directory, with_done, done_nodes, with_file, new_file}
+use Rattle.master_state.specs.Places.{place_test, is_full, is_numbered_out}
+use Rattle.master_node.specs.Mastering.{Mastering}
+use Rattle.cluster_core.specs.Names.{is_short, stop_test}
 use Rattle.cluster_core.specs.NamesStand.{NamesStand}
 use Rattle.cluster_core.specs.Tests.{mkdir_test, list_test, stat_test, create_test, Circumstance}
+use Rattle.cluster_core.proofs.Named.{nodes_are, next_id_is}
 
 -- the first answer of a list within a list
 pub first_first : {X : Type 0} (a b : Option X) (rest : List (Option X)) → first (first (a ∷ b ∷ []) ∷ rest) ≡ first (a ∷ b ∷ rest)
@@ -38,89 +34,57 @@ pub behind : {X : Type 0} (a : Option X) (xs ys : List (Option X)) → first xs 
 behind None xs ys e = e
 behind (Some x) xs ys e = refl
 
--- ---- tests
+-- where no test of a list holds, the first doesn't, and none behind it does
+pub none_first : {X : Type 0} (a : Option X) (rest : List (Option X)) → first (a ∷ rest) ≡ None → (a ≡ None) × (first rest ≡ None)
+none_first None rest h = (refl, h)
+none_first (Some x) rest h = absurd (cc)
 
--- the two tests of a place before others
-flat : (names : NamesView) (p : Path) (rest : List (Option Reply)) → first (place_test names p ∷ rest) ≡ first (walk_fault (walk_above names.nodes p) ∷ refuse Exists (is_some (find_node names.nodes p)) ∷ rest)
-flat names p rest = first_first (walk_fault (walk_above names.nodes p)) (refuse Exists (is_some (find_node names.nodes p))) rest
+-- no test holds
+abbrev pub NoneHolds : {X : Type 0} → List (Option X) → Type 0
+NoneHolds [] = Unit {0}
+NoneHolds (t ∷ ts) = (t ≡ None) × NoneHolds ts
 
-pub mkdir_refusal : (S : Setup) (names : NamesView) (A : State) (H : Hands) (p : Path) → NamesStand names A → refusal S A H (Event.Mkdir p) ≡ mkdir_test S.area names p
-mkdir_refusal S names A H p s = rw (s.up, s.unlocked, s.nodes, s.gate) (sym (flat names p (past Which.Nodes (is_full names) ∷ past Which.Area (is_short names S.area (7 + path_len p)) ∷ [])))
+pub none_holds : {X : Type 0} (tests : List (Option X)) → first tests ≡ None → NoneHolds tests
+none_holds [] h = tt
+none_holds (t ∷ ts) h = let one = none_first t ts h in (one.0, none_holds ts one.1)
 
-pub list_refusal : (S : Setup) (names : NamesView) (A : State) (H : Hands) (p : Path) → NamesStand names A → refusal S A H (Event.List p) ≡ list_test names p
-list_refusal S names A H p s = rw (s.up, s.unlocked, s.nodes) refl
+-- a refusal that isn't there
+pub not_refused : (why : Refusal) (b : Bool) → refuse why b ≡ None → b ≡ false
+not_refused why true h = absurd (cc)
+not_refused why false h = refl
 
-pub stat_refusal : (S : Setup) (names : NamesView) (A : State) (H : Hands) (p : Path) → NamesStand names A → refusal S A H (Event.Stat p) ≡ stat_test names p
-stat_refusal S names A H p s = rw (s.up, s.unlocked, s.nodes) refl
+-- an entry that finds room
+pub has_room : {D : Type 0} (m : Mastering D) (len : ℕ) → past Which.Area (is_short m len) ≡ None → m.journal.gate + 2 + len ≤ m.journal.limit
+has_room m len h = ltb-false m.journal.limit (m.journal.gate + 2 + len) (not_refused (Limit Which.Area) (is_short m len) h)
 
--- the tests of Create behind that of the place
-abbrev create_rest : ℕ → NamesView → Circumstance → Path → List (Option Reply)
-create_rest area names c p =
-    refuse (NoWorker c.worker) (not (nat_eq c.worker 0) && not c.configured)
-    ∷ past Which.Nodes (is_full names)
-    ∷ past Which.Labels (nat_le 64 c.labels)
-    ∷ past Which.Ids (is_numbered_out names)
-    ∷ past Which.Area (is_short names area (15 + path_len p))
-    ∷ (refuse (NoWorker c.worker) (not c.live) only_if not (nat_eq c.worker 0))
-    ∷ []
+-- the two tests of a place before others, behind that of the master
+flat : (halt : Option Reply) (N : Names) (p : Path) (rest : List (Option Reply)) → first (halt ∷ None ∷ walk_fault (walk_above N.nodes p) ∷ refuse Exists (has_node N p) ∷ rest) ≡ first (halt ∷ place_test N p ∷ rest)
+flat halt N p rest = behind halt (None ∷ walk_fault (walk_above N.nodes p) ∷ refuse Exists (has_node N p) ∷ rest) (place_test N p ∷ rest) (sym (first_first (walk_fault (walk_above N.nodes p)) (refuse Exists (has_node N p)) rest))
 
-pub create_refusal : (S : Setup) (names : NamesView) (A : State) (H : Hands) (l : Label) (p : Path) (kind : WriteType) (w : ℕ) → NamesStand names A
-    → refusal S A H (Event.Create l p kind w) ≡ create_test S.area names (record { taken = has_label H l; labels = length H; worker = w; configured = is_configured S w; live = is_live A w }) p
-create_refusal S names A H l p kind w s =
-    let c : Circumstance = record { taken = has_label H l; labels = length H; worker = w; configured = is_configured S w; live = is_live A w } in
-    rw (s.up, s.unlocked, s.nodes, s.gate, s.next_id) (behind (refuse BadLabel (has_label H l)) (None ∷ None ∷ walk_fault (walk_above names.nodes p) ∷ refuse Exists (is_some (find_node names.nodes p)) ∷ create_rest S.area names c p) (place_test names p ∷ create_rest S.area names c p) (sym (flat names p (create_rest S.area names c p))))
+module _ {D : Type 0} (S : Setup) (m : Mastering D) (A : State) (H : Hands) (s : NamesStand m A) where
+  pub mkdir_refusal : (p : Path) → S.area ≡ m.journal.limit → refusal S A H (Event.Mkdir p) ≡ mkdir_test m p
+  mkdir_refusal p area = rw (s.down, s.unlocked, nodes_are s, s.gate, area) (flat (stop_test m) m.kept.names p (past Which.Nodes (is_full m.kept.names) ∷ past Which.Area (is_short m (7 + path_len p)) ∷ []))
 
--- ---- the state afterwards
+  pub list_refusal : (p : Path) → refusal S A H (Event.List p) ≡ list_test m p
+  list_refusal p = rw (s.down, s.unlocked, nodes_are s) (behind (stop_test m) (None ∷ walk_fault (walk_nodes m.kept.names.nodes p) ∷ refuse NotDirectory (is_some (option_and_then file_in (find_node m.kept.names.nodes p))) ∷ []) (walk_fault (walk_nodes m.kept.names.nodes p) ∷ refuse NotDirectory (is_some (option_and_then file_in (find_node m.kept.names.nodes p))) ∷ []) refl)
 
-pub mkdir_stands : (names : NamesView) (A : State) (p : Path) → NamesStand names A → NamesStand (with_directory p names) (mkdir_outcome A p).1
-mkdir_stands names A p s = record {
-  nodes = ap (λ rows. put_node p Node.Directory rows) s.nodes;
-  gate = omega (arith, s.gate);
-  next_id = s.next_id;
-  unlocked = s.unlocked;
-  up = s.up;
-  unfused = ap (spend 4) s.unfused;
-}
+  pub stat_refusal : (p : Path) → refusal S A H (Event.Stat p) ≡ stat_test m p
+  stat_refusal p = rw (s.down, s.unlocked, nodes_are s) (behind (stop_test m) (None ∷ walk_fault (walk_nodes m.kept.names.nodes p) ∷ []) (walk_fault (walk_nodes m.kept.names.nodes p) ∷ []) refl)
 
-pub create_stands : (names : NamesView) (A : State) (p : Path) → NamesStand names A → NamesStand (with_file p names) (journal_if (create_change A p) A)
-create_stands names A p s = record {
-  nodes = ap (λ rows. put_node p (Node.IsFile (new_file A.names.next_id)) rows) s.nodes ∙ ap (λ n. put_node p (Node.IsFile (new_file n)) names.nodes) s.next_id;
-  gate = omega (arith, s.gate);
-  next_id = omega (arith, s.next_id);
-  unlocked = s.unlocked;
-  up = s.up;
-  unfused = ap (spend 4) s.unfused;
-}
+  -- the tests of Create behind that of the place
+  abbrev create_rest : Circumstance → Path → List (Option Reply)
+  create_rest c p =
+      refuse (NoWorker c.worker) (not (nat_eq c.worker 0) && not c.configured)
+      ∷ past Which.Nodes (is_full m.kept.names)
+      ∷ past Which.Labels (nat_le 64 c.labels)
+      ∷ past Which.Ids (is_numbered_out m.kept.names)
+      ∷ past Which.Area (is_short m (15 + path_len p))
+      ∷ (refuse (NoWorker c.worker) (not c.live) only_if not (nat_eq c.worker 0))
+      ∷ []
 
-pub done_stands : (names : NamesView) (A : State) (id len : ℕ) → NamesStand names A → NamesStand (with_done id len names) (journal (Change.Done id len Stored.No 0) A)
-done_stands names A id len s = record {
-  nodes = ap (done_nodes id len) s.nodes;
-  gate = omega (arith, s.gate);
-  next_id = s.next_id;
-  unlocked = s.unlocked;
-  up = s.up;
-  unfused = ap (spend 4) s.unfused;
-}
-
--- the names whose nodes, gate and next number are those with a file done
-pub done_names : (nodes new : List NodeRow) (gate next id len : ℕ) (names : NamesView) → ◌≡◌ {A = NamesView} (record { nodes = nodes; gate = gate; next_id = next }) names → new ≡ done_nodes id len nodes
-    → ◌≡◌ {A = NamesView} (record { nodes = new; gate = gate + 31; next_id = next }) (with_done id len names)
-done_names nodes new gate next id len names view are =
-    let more : gate + 31 ≡ gate + 1 + 30 = omega arith in
-    (λ i. record { nodes = are i; gate = more i; next_id = next }) ∙ ap (with_done id len) view
-
--- ---- the first state
-
--- the first checkpoint gives the gate
-first_gate : (S : Setup) → checkpoint_gate (fresh_names S) ≡ 54 + key_len S.root
-first_gate S = omega arith
-
-pub first_stands : (S : Setup) (W : Whole) → Begins S W → NamesStand (first_names S) W.body
-first_stands S W b = record {
-  nodes = ap (λ (A : State). A.names.nodes) b.body;
-  gate = ap (λ (A : State). A.master.gate) b.body ∙ first_gate S;
-  next_id = ap (λ (A : State). A.names.next_id) b.body;
-  unlocked = ap (λ (A : State). A.names.locks) b.body;
-  up = ap (λ (A : State). A.master.up) b.body;
-  unfused = ap (λ (A : State). A.master.fuse) b.body;
-}
+  pub create_refusal : (l : Label) (p : Path) (kind : WriteType) (w : ℕ) → S.area ≡ m.journal.limit
+      → refusal S A H (Event.Create l p kind w) ≡ create_test m (record { taken = has_label H l; labels = length H; worker = w; configured = is_configured S w; live = is_live A w }) p
+  create_refusal l p kind w area =
+      let c : Circumstance = record { taken = has_label H l; labels = length H; worker = w; configured = is_configured S w; live = is_live A w } in
+      rw (s.down, s.unlocked, nodes_are s, s.gate, next_id_is s, area)
+      (behind (refuse BadLabel (has_label H l)) (stop_test m ∷ None ∷ walk_fault (walk_above m.kept.names.nodes p) ∷ refuse Exists (has_node m.kept.names p) ∷ create_rest c p) (stop_test m ∷ place_test m.kept.names p ∷ create_rest c p) (flat (stop_test m) m.kept.names p (create_rest c p)))

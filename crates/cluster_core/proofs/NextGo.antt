@@ -32,6 +32,7 @@ use Rattle.outside.specs.declared.disk.Disk as disks
 use Rattle.outside.specs.declared.objects.Objects as objects
 use Rattle.outside.specs.declared.objects.ObjectRead as reads
 use Rattle.outside.specs.declared.objects.ObjectWrite as writes
+use Rattle.cluster_core.proofs.Named.{serves_none}
 use Rattle.cluster_core.specs.NamesStand.{NamesStand}
 use Rattle.cluster_core.specs.Tiers.{ChangesAt, At, IsFaultOrShort, object_key}
 use Rattle.cluster_core.specs.LabelsView.{LabelsView, hand_in}
@@ -40,7 +41,7 @@ use Rattle.cluster_core.specs.HandFits.{Fits, StreamFits, ReaderFits, source_of,
 use Rattle.cluster_core.specs.Knowledge.{Knowledge, Holder, Leaves}
 use Rattle.cluster_core.specs.Kept.{KeepsRest}
 use Rattle.cluster_core.specs.Polls.{SameFile}
-use Rattle.cluster_core.specs.Seeks.{found_reply, copy_at, first_copy, Opens, Tried, TriesRow, FailsRow, wanted, place_in, left_of, NewSource, Sought, SeeksOf, HandSeeks}
+use Rattle.cluster_core.specs.Seeks.{Halts, found_reply, copy_at, first_copy, Opens, Tried, TriesRow, FailsRow, wanted, place_in, left_of, NewSource, Sought, SeeksOf, HandSeeks}
 use Rattle.cluster_core.specs.Stands.{Stands, SetupFits, WorkersStand, HandsStand, NodeStands, NodesStand, CopyStands, ObjectFits}
 use Rattle.cluster_core.specs.Goes.{Goes, Steps, Rises, no_rise, tier_rise}
 use Rattle.cluster_core.specs.declared.cluster.Core.{Core}
@@ -60,7 +61,7 @@ use Rattle.cluster_core.proofs.Rows.{found_of_all}
 use Rattle.cluster_core.proofs.CloseGo.{by_actor}
 use Rattle.cluster_core.proofs.OpenGo.{rest_both}
 use Rattle.cluster_core.proofs.StreamsGo.{sets_same, stays_kept, block_number, good_source, there_is, fits_in_place}
-use Rattle.cluster_core.proofs.SourceFacts.{file_kept, missing_file, next_refusal_is, unwanted, wanted_one, refusal_at, sources_are}
+use Rattle.cluster_core.proofs.SourceFacts.{file_kept, missing_file, stopped_first, next_refusal_is, unwanted, wanted_one, refusal_at, sources_are}
 use Rattle.cluster_core.proofs.TierReads.{told_stands, nodes_changed, all_used, used_row, same_row, used_rooms, same_rooms, leaves_rooms}
 use Rattle.cluster_core.proofs.BlockReads.{left_is, ends_within, rest_of_block, number_is, copy_there, block_is, Object, range_left, then_rose}
 
@@ -129,18 +130,18 @@ module _ {D S R W : Type 0} {d : disks.Ghosts D} (o : objects.Ghosts S R W) (r :
       by_broken false = refl
 
   -- the core with another hand of the label, and perhaps other workers
-  stands_with : (B : State) (t u : Hand R W) (k h : machine.Hand) → SetupFits U old.block old.area new.workers.items → NamesStand old.names B → WorkersStand new.workers.items B → B.contents ≡ V.body.contents → Leaves (suc i, l) s.known s.known old.workers.items new.workers.items old.names.next_id old.names.next_id → NodesStand o s.known old.names.next_id old.block new.workers.items
-      → hand_at (hands_of V (suc i)) l ≡ Some k → ChangesAt old.hands.items new.hands.items i (SetsHand l t u) → Fits r w s.known new.workers.items old.names.next_id old.block (suc i, l) h u → Stands d o r w U new (put_back V (suc i) B (set_hand l h (hands_of V (suc i))))
-  stands_with B t u k h setup named workers contents left nodes at hands fits = stands_by o r w U new (put_back V (suc i) B (set_hand l h (hands_of V (suc i)))) s.known old.block old.area old.names new.workers.items new.hands.items rest.block rest.area rest.names refl refl (record {
+  stands_with : (B : State) (t u : Hand R W) (k h : machine.Hand) → SetupFits U old.block old.master.journal.limit new.workers.items → NamesStand old.master B → WorkersStand new.workers.items B → B.contents ≡ V.body.contents → Leaves (suc i, l) s.known s.known old.workers.items new.workers.items old.master.kept.names.next_id old.master.kept.names.next_id → NodesStand o s.known old.master.kept.names.next_id old.block new.workers.items
+      → hand_at (hands_of V (suc i)) l ≡ Some k → ChangesAt old.hands.items new.hands.items i (SetsHand l t u) → Fits r w s.known new.workers.items old.master.kept.names.next_id old.block (suc i, l) h u → Stands d o r w U new (put_back V (suc i) B (set_hand l h (hands_of V (suc i))))
+  stands_with B t u k h setup named workers contents left nodes at hands fits = stands_by o r w U new (put_back V (suc i) B (set_hand l h (hands_of V (suc i)))) s.known old.block old.master.journal.limit old.master new.workers.items new.hands.items rest.block (ap (λ k. k.journal.limit) rest.master) rest.master refl refl (record {
     setup = setup;
     named = named;
     workers = workers;
-    hands = hands_set r w s.known s.known old.workers.items new.workers.items old.names.next_id old.names.next_id old.block i l left V.hands old.hands.items new.hands.items s.hands within t u k h at hands fits;
-    files = subst (λ cs. Rattle.cluster_core.specs.Stands.FilesStand s.known old.names.next_id old.block old.names.nodes cs) (sym contents) s.files;
+    hands = hands_set r w s.known s.known old.workers.items new.workers.items old.master.kept.names.next_id old.master.kept.names.next_id old.block i l left V.hands old.hands.items new.hands.items s.hands within t u k h at hands fits;
+    files = subst (λ cs. Rattle.cluster_core.specs.Stands.FilesStand s.known old.master.kept.names.next_id old.block old.master.kept.names.nodes cs) (sym contents) s.files;
     objects = nodes;
   })
 
-  module _ (x y : Stream R) (hands : ChangesAt old.hands.items new.hands.items i (SetsHand l (Hand.Reading x) (Hand.Reading y))) (m : machine.Stream) (at : hand_at (hands_of V (suc i)) l ≡ Some (machine.Hand.Reading m)) (fits : StreamFits r s.known old.names.next_id old.block m x) where
+  module _ (x y : Stream R) (hands : ChangesAt old.hands.items new.hands.items i (SetsHand l (Hand.Reading x) (Hand.Reading y))) (m : machine.Stream) (at : hand_at (hands_of V (suc i)) l ≡ Some (machine.Hand.Reading m)) (fits : StreamFits r s.known old.master.kept.names.next_id old.block m x) where
     abbrev H : Hands
     H = hands_of V (suc i)
 
@@ -157,11 +158,14 @@ module _ {D S R W : Type 0} {d : disks.Ghosts D} (o : objects.Ghosts S R W) (r :
     refuse_is : refusal U V.body H (Event.Next l) ≡ next_refusal_of V.body m.file m.bs m.at (length m.bytes) m.source
     refuse_is = ap next_test at
 
-    there_m : (b : Bool) → is_some (file_row old.names.nodes x.file) ≡ b → is_some (file_row old.names.nodes m.file) ≡ b
-    there_m b there = ap (λ f. is_some (file_row old.names.nodes f)) fits.file ∙ there
+    there_m : (b : Bool) → is_some (file_row old.master.kept.names.nodes x.file) ≡ b → is_some (file_row old.master.kept.names.nodes m.file) ≡ b
+    there_m b there = ap (λ f. is_some (file_row old.master.kept.names.nodes f)) fits.file ∙ there
 
-    pub next_lost : is_some (file_row old.names.nodes x.file) ≡ false → new.workers.items ≡ old.workers.items → y ≡ x → Goes d o r w U old new V (suc i) (Event.Next l) (Reply.Refused Refusal.NotFound)
-    next_lost gone workers same = goes_refused o r w U old new V (suc i) (Event.Next l) (Reply.Refused Refusal.NotFound) (kept workers same) (refuse_is ∙ missing_file old.names V.body s.names m.file m.bs m.at (length m.bytes) m.source (there_m false gone)) refl refl
+    pub next_stopped : old.master.journal.failed ≡ true → new.workers.items ≡ old.workers.items → y ≡ x → Goes d o r w U old new V (suc i) (Event.Next l) (Reply.Refused Refusal.Stopped)
+    next_stopped down workers same = goes_refused o r w U old new V (suc i) (Event.Next l) (Reply.Refused Refusal.Stopped) (kept workers same) (refuse_is ∙ stopped_first old.master V.body s.names m.file m.bs m.at (length m.bytes) m.source down) refl refl
+
+    pub next_lost : old.master.journal.failed ≡ false → is_some (file_row old.master.kept.names.nodes x.file) ≡ false → new.workers.items ≡ old.workers.items → y ≡ x → Goes d o r w U old new V (suc i) (Event.Next l) (Reply.Refused Refusal.NotFound)
+    next_lost up gone workers same = goes_refused o r w U old new V (suc i) (Event.Next l) (Reply.Refused Refusal.NotFound) (kept workers same) (refuse_is ∙ missing_file old.master V.body s.names m.file m.bs m.at (length m.bytes) m.source up (there_m false gone)) refl refl
 
     -- what the machine does with the stream
     abbrev does_with : Option machine.Hand → Outcome
@@ -173,8 +177,8 @@ module _ {D S R W : Type 0} {d : disks.Ghosts D} (o : objects.Ghosts S R W) (r :
     does : (b : Bool) → nat_le (length m.bytes) m.at ≡ b → accepted U (fault_free 0) V.body H (suc i) (Event.Next l) ≡ at_end_if b
     does b is = ap does_with at ∙ ap at_end_if is
 
-    pub next_ended : is_some (file_row old.names.nodes x.file) ≡ true → x.len ≤ x.at → SameFile r x y x.at → y.source ≡ None → new.workers.items ≡ old.workers.items → Goes d o r w U old new V (suc i) (Event.Next l) Reply.End
-    next_ended there ended same gone workers =
+    pub next_ended : old.master.journal.failed ≡ false → is_some (file_row old.master.kept.names.nodes x.file) ≡ true → x.len ≤ x.at → SameFile r x y x.at → y.source ≡ None → new.workers.items ≡ old.workers.items → Goes d o r w U old new V (suc i) (Event.Next l) Reply.End
+    next_ended up there ended same gone workers =
         let B = release (suc i) l V.body in
         let G = set_hand l (machine.Hand.Reading (bare m)) H in
         let past : length m.bytes ≤ m.at = omega (arith, ended, fits.len, fits.at) in
@@ -185,19 +189,19 @@ module _ {D S R W : Type 0} {d : disks.Ghosts D} (o : objects.Ghosts S R W) (r :
           rise = no_rise;
           made = None;
           stands = stands_with B (Hand.Reading x) (Hand.Reading y) (machine.Hand.Reading m) (machine.Hand.Reading (bare m))
-              (subst (λ ns. SetupFits U old.block old.area ns) (sym workers) s.setup)
-              (record { nodes = s.names.nodes; gate = s.names.gate; next_id = s.names.next_id; unlocked = s.names.unlocked; up = s.names.up; unfused = s.names.unfused })
+              (subst (λ ns. SetupFits U old.block old.master.journal.limit ns) (sym workers) s.setup)
+              (record { names = s.names.names; gate = s.names.gate; generation = s.names.generation; fuse = s.names.fuse; down = s.names.down; unlocked = s.names.unlocked })
               (workers_as new.workers.items V.body B refl refl (subst (λ ns. WorkersStand ns V.body) (sym workers) s.workers))
               refl
-              (subst (λ ns. Leaves (suc i, l) s.known s.known old.workers.items ns old.names.next_id old.names.next_id) (sym workers) (leaves_all (suc i, l) s.known old.workers.items old.names.next_id))
-              (subst (λ ns. NodesStand o s.known old.names.next_id old.block ns) (sym workers) s.objects)
+              (subst (λ ns. Leaves (suc i, l) s.known s.known old.workers.items ns old.master.kept.names.next_id old.master.kept.names.next_id) (sym workers) (leaves_all (suc i, l) s.known old.workers.items old.master.kept.names.next_id))
+              (subst (λ ns. NodesStand o s.known old.master.kept.names.next_id old.block ns) (sym workers) s.objects)
               at hands
-              (fits_in_place r s.known old.names.next_id old.block m x y fits (bare m) refl refl refl refl refl refl refl same (sym (ap source_of gone)) (subst (λ q. IfSome q (λ z. z.failed ≡ false → ReaderFits r (bare m) z)) (sym gone) tt));
+              (fits_in_place r s.known old.master.kept.names.next_id old.block m x y fits (bare m) refl refl refl refl refl refl refl same (sym (ap source_of gone)) (subst (λ q. IfSome q (λ z. z.failed ≡ false → ReaderFits r (bare m) z)) (sym gone) tt));
           rises = Rises.Nothing;
           step = record {
             body = B;
             hands = G;
-            step = Step.Accepted (fault_free 0) (refuse_is ∙ next_refusal_is old.names V.body s.names m.file m.bs m.at (length m.bytes) m.source (there_m true there) ∙ unwanted old.names V.body s.names m.file m.bs m.at (length m.bytes) m.source (and_left (nat_lt m.at (length m.bytes)) (is_none m.source) (le-ltb m.at (length m.bytes) past))) refl (ap (λ fuse. fuse_serves fuse 0) s.names.unfused) (ap next_chosen at) shown refl;
+            step = Step.Accepted (fault_free 0) (refuse_is ∙ next_refusal_is old.master V.body s.names m.file m.bs m.at (length m.bytes) m.source up (there_m true there) ∙ unwanted old.master V.body s.names m.file m.bs m.at (length m.bytes) m.source (and_left (nat_lt m.at (length m.bytes)) (is_none m.source) (le-ltb m.at (length m.bytes) past))) refl (serves_none V.body.master.fuse) (ap next_chosen at) shown refl;
             after = refl;
           };
         }
@@ -205,8 +209,8 @@ module _ {D S R W : Type 0} {d : disks.Ghosts D} (o : objects.Ghosts S R W) (r :
     before : x.at < x.len → nat_le (length m.bytes) m.at ≡ false
     before inside = lt-leb (length m.bytes) m.at (omega (arith, inside, fits.len, fits.at))
 
-    pub next_still : (v t : ℕ) → is_some (file_row old.names.nodes x.file) ≡ true → x.at < x.len → source_of x.source ≡ Some (Source.AtWorker v t) → y ≡ x → new.workers.items ≡ old.workers.items → Goes d o r w U old new V (suc i) (Event.Next l) (Reply.FromWorker v t)
-    next_still v t there inside has same workers =
+    pub next_still : (v t : ℕ) → old.master.journal.failed ≡ false → is_some (file_row old.master.kept.names.nodes x.file) ≡ true → x.at < x.len → source_of x.source ≡ Some (Source.AtWorker v t) → y ≡ x → new.workers.items ≡ old.workers.items → Goes d o r w U old new V (suc i) (Event.Next l) (Reply.FromWorker v t)
+    next_still v t up there inside has same workers =
         let source : m.source ≡ Some (Source.AtWorker v t) = fits.source ∙ has in
         record {
           after = V;
@@ -217,7 +221,7 @@ module _ {D S R W : Type 0} {d : disks.Ghosts D} (o : objects.Ghosts S R W) (r :
           step = record {
             body = V.body;
             hands = H;
-            step = Step.Accepted (fault_free 0) (refuse_is ∙ next_refusal_is old.names V.body s.names m.file m.bs m.at (length m.bytes) m.source (there_m true there) ∙ unwanted old.names V.body s.names m.file m.bs m.at (length m.bytes) m.source (and_right (nat_lt m.at (length m.bytes)) (is_none m.source) (ap is_none source))) refl (ap (λ fuse. fuse_serves fuse 0) s.names.unfused) (ap next_chosen at)
+            step = Step.Accepted (fault_free 0) (refuse_is ∙ next_refusal_is old.master V.body s.names m.file m.bs m.at (length m.bytes) m.source up (there_m true there) ∙ unwanted old.master V.body s.names m.file m.bs m.at (length m.bytes) m.source (and_right (nat_lt m.at (length m.bytes)) (is_none m.source) (ap is_none source))) refl (serves_none V.body.master.fuse) (ap next_chosen at)
                 (sym (does false (before inside) ∙ ap (next_within U (fault_free 0) V.body (suc i) H l m) source)) refl;
             after = sym (put_same V (suc i));
           };
@@ -225,7 +229,7 @@ module _ {D S R W : Type 0} {d : disks.Ghosts D} (o : objects.Ghosts S R W) (r :
 
     -- ---- a source is sought
 
-    module _ (sought : Sought o r old.names.nodes x) where
+    module _ (up : old.master.journal.failed ≡ false) (sought : Sought o r old.master.kept.names.nodes x) where
       none_m : m.source ≡ None
       none_m = fits.source ∙ sought.none
 
@@ -242,7 +246,7 @@ module _ {D S R W : Type 0} {d : disks.Ghosts D} (o : objects.Ghosts S R W) (r :
           ap (λ k. min k (2 ^ 32 - 1)) same ∙ number_is (m.at / m.bs) (block_number m.bs (length m.bytes) m.at some_b (omega (arith, fits.short, fits.bs)) inside_m)
 
       kept_m : IfSome (file_of V.body.names m.file) (λ g. g.stored ≡ Stored.No)
-      kept_m = file_kept old.names V.body s.names m.file s.known V.body.contents old.names.next_id old.block s.files.each
+      kept_m = file_kept old.master V.body s.names m.file s.known V.body.contents old.master.kept.names.next_id old.block s.files.each
 
       -- the first worker's copy in the machine's words
       copy_m : (c : Option Copied) → first_copy old.workers.items x.file (wanted o r old.block x) ≡ c → first_copy old.workers.items m.file (m.at / m.bs) ≡ c
@@ -251,8 +255,8 @@ module _ {D S R W : Type 0} {d : disks.Ghosts D} (o : objects.Ghosts S R W) (r :
       -- the refusal, by that copy
       refused_by : (c : Option Copied) → first_copy old.workers.items x.file (wanted o r old.block x) ≡ c → refusal U V.body H (Event.Next l) ≡ refuse (Refusal.Unavailable (m.at / m.bs)) (is_none c)
       refused_by c is =
-          refuse_is ∙ next_refusal_is old.names V.body s.names m.file m.bs m.at (length m.bytes) m.source (there_m true sought.there)
-          ∙ wanted_one old.names V.body s.names m.file m.bs m.at (length m.bytes) m.source wants (refuse (Refusal.Unavailable (m.at / m.bs)) (is_none c))
+          refuse_is ∙ next_refusal_is old.master V.body s.names m.file m.bs m.at (length m.bytes) m.source up (there_m true sought.there)
+          ∙ wanted_one old.master V.body s.names m.file m.bs m.at (length m.bytes) m.source wants (refuse (Refusal.Unavailable (m.at / m.bs)) (is_none c))
           (refusal_at old.workers.items V.body s.workers m.file (m.at / m.bs) kept_m ∙ ap (λ k. refuse (Refusal.Unavailable (m.at / m.bs)) (is_none k)) (copy_m c is))
 
       pub next_unavailable : (b : ℕ) → b ≡ wanted o r old.block x → first_copy old.workers.items x.file (wanted o r old.block x) ≡ None → y ≡ x → new.workers.items ≡ old.workers.items → Goes d o r w U old new V (suc i) (Event.Next l) (Reply.Refused (Refusal.Unavailable b))
@@ -264,8 +268,8 @@ module _ {D S R W : Type 0} {d : disks.Ghosts D} (o : objects.Ghosts S R W) (r :
         first_is : first_copy old.workers.items x.file (wanted o r old.block x) ≡ Some c
         first_is = ap (copy_at x.file (wanted o r old.block x)) was ∙ found
 
-        copy_stood : CopyStands o s.known old.names.next_id old.block 1 n c × (is_block x.file (wanted o r old.block x) c ≡ true)
-        copy_stood = found_of_all (CopyStands o s.known old.names.next_id old.block 1 n) (is_block x.file (wanted o r old.block x)) n.book.rows c (s.objects 0 n was).copies (copy_there x.file (wanted o r old.block x) n c found).1
+        copy_stood : CopyStands o s.known old.master.kept.names.next_id old.block 1 n c × (is_block x.file (wanted o r old.block x) c ≡ true)
+        copy_stood = found_of_all (CopyStands o s.known old.master.kept.names.next_id old.block 1 n) (is_block x.file (wanted o r old.block x)) n.book.rows c (s.objects 0 n was).copies (copy_there x.file (wanted o r old.block x) n c found).1
 
         file_c : c.file ≡ m.file
         file_c = (block_is x.file (wanted o r old.block x) c copy_stood.1).0 ∙ sym fits.file
@@ -310,8 +314,8 @@ module _ {D S R W : Type 0} {d : disks.Ghosts D} (o : objects.Ghosts S R W) (r :
         passes = refused_by (Some c) first_is
 
         -- the labels rest on what they rested on
-        leaves_from : ChangesAt old.workers.items new.workers.items 0 (KeepsRooms c.number) → (a : Holder) → Leaves a s.known s.known old.workers.items new.workers.items old.names.next_id old.names.next_id
-        leaves_from change a = leaves_rooms s.known a old.workers.items new.workers.items old.names.next_id c.number change copy_stood.0.owner
+        leaves_from : ChangesAt old.workers.items new.workers.items 0 (KeepsRooms c.number) → (a : Holder) → Leaves a s.known s.known old.workers.items new.workers.items old.master.kept.names.next_id old.master.kept.names.next_id
+        leaves_from change a = leaves_rooms s.known a old.workers.items new.workers.items old.master.kept.names.next_id c.number change copy_stood.0.owner
 
         -- ---- nothing but tiers that may have failed
 
@@ -323,14 +327,14 @@ module _ {D S R W : Type 0} {d : disks.Ghosts D} (o : objects.Ghosts S R W) (r :
           rows_same = fixed (RowChanges (λ W. W)) old.workers.items new.workers.items 0 n n' was is change (same_row n n' tried.same)
 
           tried_stands : Stands d o r w U new V
-          tried_stands = stands_by o r w U new V s.known old.block old.area old.names new.workers.items new.hands.items rest.block rest.area rest.names refl refl (record {
+          tried_stands = stands_by o r w U new V s.known old.block old.master.journal.limit old.master new.workers.items new.hands.items rest.block (ap (λ k. k.journal.limit) rest.master) rest.master refl refl (record {
             setup = setup_stays (λ W. W) old.workers.items new.workers.items 1 rows_same s.setup;
             named = s.names;
             workers = workers_as new.workers.items (change_worker 1 (λ W. W) V.body) V.body (sym (set-get_or V.body.workers 0 no_worker)) refl (workers_change (λ W. W) old.workers.items new.workers.items 1 rows_same V.body s.workers);
-            hands = hands_still r w s.known old.workers.items new.workers.items old.names.next_id old.block i l (leaves_from (fixed (KeepsRooms c.number) old.workers.items new.workers.items 0 n n' was is change (same_rooms c.number n n' tried.same))) V.hands old.hands.items new.hands.items s.hands within (kept_hands same);
+            hands = hands_still r w s.known old.workers.items new.workers.items old.master.kept.names.next_id old.block i l (leaves_from (fixed (KeepsRooms c.number) old.workers.items new.workers.items 0 n n' was is change (same_rooms c.number n n' tried.same))) V.hands old.hands.items new.hands.items s.hands within (kept_hands same);
             files = s.files;
-            objects = nodes_changed o Q s.known old.names.next_id old.block 0 old.workers.items new.workers.items (fixed Q old.workers.items new.workers.items 0 n n' was is change tried)
-                (λ a b g. told_stands o s.known old.names.next_id old.block 1 c.tier a b g.same.started (ap (λ k. k.next) g.same.book) g.tiers (λ P all. subst (All P) (sym (ap (λ k. k.rows) g.same.book)) all) (ap (λ k. k.rooms) g.same.book)) s.objects;
+            objects = nodes_changed o Q s.known old.master.kept.names.next_id old.block 0 old.workers.items new.workers.items (fixed Q old.workers.items new.workers.items 0 n n' was is change tried)
+                (λ a b g. told_stands o s.known old.master.kept.names.next_id old.block 1 c.tier a b g.same.started (ap (λ k. k.next) g.same.book) g.tiers (λ P all. subst (All P) (sym (ap (λ k. k.rows) g.same.book)) all) (ap (λ k. k.rooms) g.same.book)) s.objects;
           })
 
           pub next_short : Goes d o r w U old new V (suc i) (Event.Next l) (Reply.Refused Refusal.Memory)
@@ -416,14 +420,14 @@ module _ {D S R W : Type 0} {d : disks.Ghosts D} (o : objects.Ghosts S R W) (r :
           opened_stands : Stands d o r w U new (put_back V (suc i) B (set_hand l (machine.Hand.Reading k_on) H))
           opened_stands = stands_with B (Hand.Reading x) (Hand.Reading y) (machine.Hand.Reading m) (machine.Hand.Reading k_on)
               (setup_stays uses old.workers.items new.workers.items 1 rows_used s.setup)
-              (record { nodes = s.names.nodes; gate = s.names.gate; next_id = s.names.next_id; unlocked = s.names.unlocked; up = s.names.up; unfused = s.names.unfused })
+              (record { names = s.names.names; gate = s.names.gate; generation = s.names.generation; fuse = s.names.fuse; down = s.names.down; unlocked = s.names.unlocked })
               (workers_as new.workers.items (change_worker 1 uses V.body) B workers_b refl (workers_change uses old.workers.items new.workers.items 1 rows_used V.body s.workers))
               refl
               (leaves_from (fixed (KeepsRooms c.number) old.workers.items new.workers.items 0 n n' was is change (used_rooms c.number n n' opens.used)) (suc i, l))
-              (nodes_changed o Q2 s.known old.names.next_id old.block 0 old.workers.items new.workers.items (fixed Q2 old.workers.items new.workers.items 0 n n' was is change opens)
-              (λ a b g. told_stands o s.known old.names.next_id old.block 1 c.tier a b g.used.started g.used.next g.tiers (λ P all. subst (All P) (sym g.used.rows) (all_used P c.number a.book.rows all)) g.used.rooms) s.objects)
+              (nodes_changed o Q2 s.known old.master.kept.names.next_id old.block 0 old.workers.items new.workers.items (fixed Q2 old.workers.items new.workers.items 0 n n' was is change opens)
+              (λ a b g. told_stands o s.known old.master.kept.names.next_id old.block 1 c.tier a b g.used.started g.used.next g.tiers (λ P all. subst (All P) (sym g.used.rows) (all_used P c.number a.book.rows all)) g.used.rooms) s.objects)
               at hands
-              (fits_in_place r s.known old.names.next_id old.block m x y fits k_on refl refl refl refl refl refl (ap (new_cache U B0 m (promoted_by (caching U (fault_free 0) B0 m candidate))) place_none) same source_z (subst (λ q. IfSome q (λ b. b.failed ≡ false → ReaderFits r k_on b)) (sym there) (λ still. reads_on)))
+              (fits_in_place r s.known old.master.kept.names.next_id old.block m x y fits k_on refl refl refl refl refl refl (ap (new_cache U B0 m (promoted_by (caching U (fault_free 0) B0 m candidate))) place_none) same source_z (subst (λ q. IfSome q (λ b. b.failed ≡ false → ReaderFits r k_on b)) (sym there) (λ still. reads_on)))
 
           pub next_opened : Goes d o r w U old new V (suc i) (Event.Next l) (Reply.FromWorker 1 c.tier)
           next_opened = record {
@@ -435,7 +439,7 @@ module _ {D S R W : Type 0} {d : disks.Ghosts D} (o : objects.Ghosts S R W) (r :
             step = record {
               body = B;
               hands = set_hand l (machine.Hand.Reading k_on) H;
-              step = Step.Accepted (fault_free 0) passes refl (ap (λ fuse. fuse_serves fuse 0) s.names.unfused) (ap next_chosen at)
+              step = Step.Accepted (fault_free 0) passes refl (serves_none V.body.master.fuse) (ap next_chosen at)
                   (sym (does false (before sought.inside) ∙ ap (next_within U (fault_free 0) V.body (suc i) H l m) none_m ∙ ap (next_among U (fault_free 0) V.body (suc i) H l m) only_one)) refl;
               after = refl;
             };
@@ -450,23 +454,23 @@ module _ {D S R W : Type 0} {d : disks.Ghosts D} (o : objects.Ghosts S R W) (r :
     abbrev Fails : Node S → Node S → Type 0
     Fails = FailsRow o r x.file (wanted o r old.block x) (place_in o r old.block x) (left_of o r old.block x)
 
-    seek_short : Sought o r old.names.nodes x → ChangesAt old.workers.items new.workers.items 0 Tries → y ≡ x → Goes d o r w U old new V (suc i) (Event.Next l) (Reply.Refused Refusal.Memory)
-    seek_short sought change same =
+    seek_short : old.master.journal.failed ≡ false → Sought o r old.master.kept.names.nodes x → ChangesAt old.workers.items new.workers.items 0 Tries → y ≡ x → Goes d o r w U old new V (suc i) (Event.Next l) (Reply.Refused Refusal.Memory)
+    seek_short up sought change same =
         let both = both_there (slice_get old.workers.items 0) (slice_get new.workers.items 0) change.at in
         let copy = there_is (Tried o r x.file (wanted o r old.block x) (place_in o r old.block x) (left_of o r old.block x) both.0 both.1) (copy_at x.file (wanted o r old.block x) (Some both.0)) both.4 in
-        next_short sought both.0 both.1 copy.0 both.2 both.3 copy.1 change copy.2 same
+        next_short up sought both.0 both.1 copy.0 both.2 both.3 copy.1 change copy.2 same
 
-    seek_fault : Sought o r old.names.nodes x → ChangesAt old.workers.items new.workers.items 0 Tries → ChangesAt old.workers.items new.workers.items 0 Fails → y ≡ x → Goes d o r w U old new V (suc i) (Event.Next l) (Reply.Refused (Refusal.TierFault 1))
-    seek_fault sought change fails same =
+    seek_fault : old.master.journal.failed ≡ false → Sought o r old.master.kept.names.nodes x → ChangesAt old.workers.items new.workers.items 0 Tries → ChangesAt old.workers.items new.workers.items 0 Fails → y ≡ x → Goes d o r w U old new V (suc i) (Event.Next l) (Reply.Refused (Refusal.TierFault 1))
+    seek_fault up sought change fails same =
         let both = both_there (slice_get old.workers.items 0) (slice_get new.workers.items 0) change.at in
         let copy = there_is (Tried o r x.file (wanted o r old.block x) (place_in o r old.block x) (left_of o r old.block x) both.0 both.1) (copy_at x.file (wanted o r old.block x) (Some both.0)) both.4 in
         let failed : Fails both.0 both.1 = at_these Fails (slice_get old.workers.items 0) (slice_get new.workers.items 0) both.0 both.1 both.2 both.3 fails.at in
         let tier : IsSomeAnd (Some copy.0) (λ c. ChangesAt both.0.tiers.items both.1.tiers.items c.tier (IsFaultOrShort o (object_key both.0.started c.number) (place_in o r old.block x + left_of o r old.block x))) =
         subst (λ q. IsSomeAnd q (λ c. ChangesAt both.0.tiers.items both.1.tiers.items c.tier (IsFaultOrShort o (object_key both.0.started c.number) (place_in o r old.block x + left_of o r old.block x)))) copy.1 failed in
-        next_fault sought both.0 both.1 copy.0 both.2 both.3 copy.1 change copy.2 same tier
+        next_fault up sought both.0 both.1 copy.0 both.2 both.3 copy.1 change copy.2 same tier
 
-    seek_opened : (t : ℕ) → Sought o r old.names.nodes x → SameFile r x y x.at → IsSomeAnd y.source (NewSource o r old.block x old.workers.items new.workers.items t) → Goes d o r w U old new V (suc i) (Event.Next l) (Reply.FromWorker 1 t)
-    seek_opened t sought same source =
+    seek_opened : (t : ℕ) → old.master.journal.failed ≡ false → Sought o r old.master.kept.names.nodes x → SameFile r x y x.at → IsSomeAnd y.source (NewSource o r old.block x old.workers.items new.workers.items t) → Goes d o r w U old new V (suc i) (Event.Next l) (Reply.FromWorker 1 t)
+    seek_opened t up sought same source =
         let given = there_is (NewSource o r old.block x old.workers.items new.workers.items t) y.source source in
         let z = given.0 in
         let is_new = given.2 in
@@ -474,52 +478,53 @@ module _ {D S R W : Type 0} {d : disks.Ghosts D} (o : objects.Ghosts S R W) (r :
         let copy = there_is (Opens o r x.file (wanted o r old.block x) (place_in o r old.block x) (left_of o r old.block x) z.stream.reader t both.0 both.1) (copy_at x.file (wanted o r old.block x) (Some both.0)) both.4 in
         let opens : Opens o r x.file (wanted o r old.block x) (place_in o r old.block x) (left_of o r old.block x) z.stream.reader z.tier both.0 both.1 copy.0 = subst (λ q. Opens o r x.file (wanted o r old.block x) (place_in o r old.block x) (left_of o r old.block x) z.stream.reader q both.0 both.1 copy.0) (sym is_new.tier) copy.2 in
         subst (λ q. Goes d o r w U old new V (suc i) (Event.Next l) (Reply.FromWorker 1 q)) (sym copy.2.tier)
-        (next_opened sought both.0 both.1 copy.0 both.2 both.3 copy.1 is_new.row z opens is_new.good is_new.worker is_new.due given.1 same)
+        (next_opened up sought both.0 both.1 copy.0 both.2 both.3 copy.1 is_new.row z opens is_new.good is_new.worker is_new.due given.1 same)
 
-  by_found : (x y : Stream R) (found : Found) → ChangesAt old.hands.items new.hands.items i (SetsHand l (Hand.Reading x) (Hand.Reading y)) → (m : machine.Stream) → hand_at (hands_of V (suc i)) l ≡ Some (machine.Hand.Reading m) → StreamFits r s.known old.names.next_id old.block m x → SeeksOf o r old.names.nodes old.block old.workers.items new.workers.items x y found → Goes d o r w U old new V (suc i) (Event.Next l) (found_reply found)
-  by_found x y Found.BadLabel hands m at fits p = absurd p
-  by_found x y Found.NotFound hands m at fits p = next_lost x y hands m at fits p.0 p.2 p.1
-  by_found x y Found.End hands m at fits p = next_ended x y hands m at fits p.0 p.1 p.2 p.3 p.4
-  by_found x y (Found.Still v t) hands m at fits p = next_still x y hands m at fits v t p.0 p.1 p.2 p.3 p.4
-  by_found x y (Found.Opened t) hands m at fits p = seek_opened x y hands m at fits t p.0 p.1 p.2
-  by_found x y (Found.Unavailable b) hands m at fits p = next_unavailable x y hands m at fits p.0 b p.1 p.2 p.3 p.4
-  by_found x y Found.Fault hands m at fits p = seek_fault x y hands m at fits p.0 p.1 p.2 p.3
-  by_found x y Found.Memory hands m at fits p = seek_short x y hands m at fits p.0 p.1 p.2
+  by_found : (x y : Stream R) (found : Found) → ChangesAt old.hands.items new.hands.items i (SetsHand l (Hand.Reading x) (Hand.Reading y)) → (m : machine.Stream) → hand_at (hands_of V (suc i)) l ≡ Some (machine.Hand.Reading m) → StreamFits r s.known old.master.kept.names.next_id old.block m x → Halts old.master.journal.failed found → SeeksOf o r old.master.kept.names.nodes old.block old.workers.items new.workers.items x y found → Goes d o r w U old new V (suc i) (Event.Next l) (found_reply found)
+  by_found x y Found.BadLabel hands m at fits h p = absurd p
+  by_found x y Found.Stopped hands m at fits h p = next_stopped x y hands m at fits h p.1 p.0
+  by_found x y Found.NotFound hands m at fits h p = next_lost x y hands m at fits h p.0 p.2 p.1
+  by_found x y Found.End hands m at fits h p = next_ended x y hands m at fits h p.0 p.1 p.2 p.3 p.4
+  by_found x y (Found.Still v t) hands m at fits h p = next_still x y hands m at fits v t h p.0 p.1 p.2 p.3 p.4
+  by_found x y (Found.Opened t) hands m at fits h p = seek_opened x y hands m at fits t h p.0 p.1 p.2
+  by_found x y (Found.Unavailable b) hands m at fits h p = next_unavailable x y hands m at fits h p.0 b p.1 p.2 p.3 p.4
+  by_found x y Found.Fault hands m at fits h p = seek_fault x y hands m at fits h p.0 p.1 p.2 p.3
+  by_found x y Found.Memory hands m at fits h p = seek_short x y hands m at fits h p.0 p.1 p.2
 
-  by_hands : (t u : Hand R W) (found : Found) → ChangesAt old.hands.items new.hands.items i (SetsHand l t u) → (k : machine.Hand) → hand_at (hands_of V (suc i)) l ≡ Some k → Fits r w s.known old.workers.items old.names.next_id old.block (suc i, l) k t → HandSeeks o r old.names.nodes old.block old.workers.items new.workers.items t u found → Goes d o r w U old new V (suc i) (Event.Next l) (found_reply found)
-  by_hands (Hand.Reading x) (Hand.Reading y) found hands (machine.Hand.Reading m) at fits p = by_found x y found hands m at fits p
-  by_hands (Hand.Reading x) (Hand.Reading y) found hands (machine.Hand.Writing m) at fits p = absurd fits
-  by_hands (Hand.Reading x) (Hand.Reading y) found hands (machine.Hand.Moving m) at fits p = absurd fits
-  by_hands (Hand.Reading x) (Hand.Reading y) found hands (machine.Hand.Storing m) at fits p = absurd fits
-  by_hands (Hand.Reading x) (Hand.Writing y) found hands k at fits p = absurd p
-  by_hands (Hand.Writing x) u found hands (machine.Hand.Reading m) at fits p = absurd fits
-  by_hands (Hand.Writing x) u found hands (machine.Hand.Writing m) at fits p =
+  by_hands : (t u : Hand R W) (found : Found) → ChangesAt old.hands.items new.hands.items i (SetsHand l t u) → (k : machine.Hand) → hand_at (hands_of V (suc i)) l ≡ Some k → Fits r w s.known old.workers.items old.master.kept.names.next_id old.block (suc i, l) k t → Halts old.master.journal.failed found → HandSeeks o r old.master.kept.names.nodes old.block old.workers.items new.workers.items t u found → Goes d o r w U old new V (suc i) (Event.Next l) (found_reply found)
+  by_hands (Hand.Reading x) (Hand.Reading y) found hands (machine.Hand.Reading m) at fits h p = by_found x y found hands m at fits h p
+  by_hands (Hand.Reading x) (Hand.Reading y) found hands (machine.Hand.Writing m) at fits h p = absurd fits
+  by_hands (Hand.Reading x) (Hand.Reading y) found hands (machine.Hand.Moving m) at fits h p = absurd fits
+  by_hands (Hand.Reading x) (Hand.Reading y) found hands (machine.Hand.Storing m) at fits h p = absurd fits
+  by_hands (Hand.Reading x) (Hand.Writing y) found hands k at fits h p = absurd p
+  by_hands (Hand.Writing x) u found hands (machine.Hand.Reading m) at fits h p = absurd fits
+  by_hands (Hand.Writing x) u found hands (machine.Hand.Writing m) at fits h p =
       subst (λ g. Goes d o r w U old new V (suc i) (Event.Next l) (found_reply g)) (sym p.1) (next_writer (Hand.Writing x) m p.2 at (subst (λ k. ChangesAt old.hands.items new.hands.items i (SetsHand l (Hand.Writing x) k)) p.0 hands))
-  by_hands (Hand.Writing x) u found hands (machine.Hand.Moving m) at fits p = absurd fits
-  by_hands (Hand.Writing x) u found hands (machine.Hand.Storing m) at fits p = absurd fits
+  by_hands (Hand.Writing x) u found hands (machine.Hand.Moving m) at fits h p = absurd fits
+  by_hands (Hand.Writing x) u found hands (machine.Hand.Storing m) at fits h p = absurd fits
 
-  pub sought_goes : (t u : Hand R W) (found : Found) → ChangesAt old.hands.items new.hands.items i (SetsHand l t u) → HandSeeks o r old.names.nodes old.block old.workers.items new.workers.items t u found → Goes d o r w U old new V (suc i) (Event.Next l) (found_reply found)
-  sought_goes t u found hands p =
-      let there = fits_at r w s.known old.workers.items old.names.next_id old.block V.hands old.hands.items s.hands i within l t (set_there i l t u old.hands.items new.hands.items hands) in
-      by_hands t u found hands there.0 there.1 there.2 p
+  pub sought_goes : (t u : Hand R W) (found : Found) → ChangesAt old.hands.items new.hands.items i (SetsHand l t u) → Halts old.master.journal.failed found → HandSeeks o r old.master.kept.names.nodes old.block old.workers.items new.workers.items t u found → Goes d o r w U old new V (suc i) (Event.Next l) (found_reply found)
+  sought_goes t u found hands h p =
+      let there = fits_at r w s.known old.workers.items old.master.kept.names.next_id old.block V.hands old.hands.items s.hands i within l t (set_there i l t u old.hands.items new.hands.items hands) in
+      by_hands t u found hands there.0 there.1 there.2 h p
 
 -- ---- for any actor
 
 module _ {D S R W : Type 0} {d : disks.Ghosts D} (o : objects.Ghosts S R W) (r : reads.Ghosts R) (w : writes.Ghosts W) (old mid : Core D S R W d w) (who : ℕ) (actor : is_actor who ≡ true) (l : Label) (rest : KeepsRest old mid) (workers : mid.workers ≡ old.workers) where
   pub next_no_label : IsSomeAnd (slice_get old.hands.items (pred who)) (λ s. hand_in s l ≡ None) → ChangesAt old.hands.items mid.hands.items (pred who) KeepsHands → Steps d o r w old mid who (Event.Next l) (Reply.Refused Refusal.BadLabel)
   next_no_label absent hands = by_actor (λ k. IsSomeAnd (slice_get old.hands.items (pred k)) (λ s. hand_in s l ≡ None) → ChangesAt old.hands.items mid.hands.items (pred k) KeepsHands → Steps d o r w old mid k (Event.Next l) (Reply.Refused Refusal.BadLabel))
-      (λ i within absent hands. λ U V s. next_missing o r w old mid l i within rest U V s (ap (λ x. x.items) workers) (absent_at r w s.known old.workers.items old.names.next_id old.block V.hands old.hands.items s.hands i within l absent) hands) who actor absent hands
+      (λ i within absent hands. λ U V s. next_missing o r w old mid l i within rest U V s (ap (λ x. x.items) workers) (absent_at r w s.known old.workers.items old.master.kept.names.next_id old.block V.hands old.hands.items s.hands i within l absent) hands) who actor absent hands
 
-  module _ (found_in new : Core D S R W d w) (t u : Hand R W) (found : Found) (rest2 : KeepsRest mid found_in) (hands2 : found_in.hands ≡ mid.hands) (rest3 : KeepsRest found_in new) (workers3 : new.workers ≡ found_in.workers) (p : HandSeeks o r mid.names.nodes mid.block mid.workers.items found_in.workers.items t u found) where
+  module _ (found_in new : Core D S R W d w) (t u : Hand R W) (found : Found) (rest2 : KeepsRest mid found_in) (hands2 : found_in.hands ≡ mid.hands) (rest3 : KeepsRest found_in new) (workers3 : new.workers ≡ found_in.workers) (h : Halts mid.master.journal.failed found) (p : HandSeeks o r mid.master.kept.names.nodes mid.block mid.workers.items found_in.workers.items t u found) where
     -- the search between the core before and the core afterwards
-    seeks_whole : HandSeeks o r old.names.nodes old.block old.workers.items new.workers.items t u found
+    seeks_whole : HandSeeks o r old.master.kept.names.nodes old.block old.workers.items new.workers.items t u found
     seeks_whole =
-        subst (λ q. HandSeeks o r old.names.nodes old.block old.workers.items q.items t u found) (sym workers3)
-        (subst (λ q. HandSeeks o r old.names.nodes old.block q.items found_in.workers.items t u found) workers
-        (subst (λ q. HandSeeks o r old.names.nodes q mid.workers.items found_in.workers.items t u found) rest.block
-        (subst (λ q. HandSeeks o r q.nodes mid.block mid.workers.items found_in.workers.items t u found) rest.names p)))
+        subst (λ q. HandSeeks o r old.master.kept.names.nodes old.block old.workers.items q.items t u found) (sym workers3)
+        (subst (λ q. HandSeeks o r old.master.kept.names.nodes old.block q.items found_in.workers.items t u found) workers
+        (subst (λ q. HandSeeks o r old.master.kept.names.nodes q mid.workers.items found_in.workers.items t u found) rest.block
+        (subst (λ q. HandSeeks o r q.kept.names.nodes mid.block mid.workers.items found_in.workers.items t u found) rest.master p)))
 
     pub next_label : (k : Label) (reply : Reply) → reply ≡ found_reply found → k ≡ l → ChangesAt old.hands.items mid.hands.items (pred who) (EndsHand l t) → ChangesAt found_in.hands.items new.hands.items (pred who) (AddsHand k u) → Steps d o r w old new who (Event.Next l) reply
     next_label k reply is same ended added = by_actor (λ j. ChangesAt old.hands.items mid.hands.items (pred j) (EndsHand l t) → ChangesAt found_in.hands.items new.hands.items (pred j) (AddsHand k u) → Steps d o r w old new j (Event.Next l) reply)
         (λ i within ended added. λ U V s. subst (λ a. Goes d o r w U old new V (suc i) (Event.Next l) a) (sym is)
-        (sought_goes o r w old new l i within (rest_both rest (rest_both rest2 rest3)) U V s t u found (sets_hand i l k t u old.hands.items mid.hands.items new.hands.items same ended (subst (λ hs. ChangesAt hs.items new.hands.items i (AddsHand k u)) hands2 added)) seeks_whole)) who actor ended added
+        (sought_goes o r w old new l i within (rest_both rest (rest_both rest2 rest3)) U V s t u found (sets_hand i l k t u old.hands.items mid.hands.items new.hands.items same ended (subst (λ hs. ChangesAt hs.items new.hands.items i (AddsHand k u)) hands2 added)) (subst (λ m. Halts m.journal.failed found) rest.master h) seeks_whole)) who actor ended added

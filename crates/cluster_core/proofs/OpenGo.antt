@@ -30,7 +30,9 @@ use Rattle.outside.specs.declared.disk.Disk as disks
 use Rattle.outside.specs.declared.objects.Objects as objects
 use Rattle.outside.specs.declared.objects.ObjectRead as reads
 use Rattle.outside.specs.declared.objects.ObjectWrite as writes
-use Rattle.cluster_core.specs.Names.{NamesView}
+use Rattle.master_node.specs.Mastering.{Mastering}
+use Rattle.cluster_core.proofs.Named.{nodes_are, serves_none}
+use Rattle.cluster_core.specs.Names.{stop_test}
 use Rattle.cluster_core.specs.NamesStand.{NamesStand}
 use Rattle.cluster_core.specs.Tests.{Circumstance, open_test, done_test, file_there, passes_file}
 use Rattle.cluster_core.specs.Openings.{has_here, count_here, here}
@@ -64,21 +66,21 @@ first_three None (Some y) c rest = refl
 first_three (Some x) b c rest = refl
 
 -- the tests behind that of the file
-abbrev open_rest : ℕ → NamesView → Circumstance → Path → List (Option Reply)
-open_rest bs names c p =
+abbrev open_rest : {D : Type 0} → ℕ → Mastering D → Circumstance → Path → List (Option Reply)
+open_rest bs master c p =
     refuse (Refusal.NoWorker c.worker) (not (nat_eq c.worker 0) && not c.configured)
     ∷ past Which.Labels (nat_le 64 c.labels)
-    ∷ past Which.Blocks (passes_file (λ f. nat_lt 65536 (block_count f.len bs)) (file_there names p))
+    ∷ past Which.Blocks (passes_file (λ f. nat_lt 65536 (block_count f.len bs)) (file_there master p))
     ∷ []
 
-pub open_refusal : (S : Setup) (names : NamesView) (A : State) (H : Hands) (l : Label) (p : Path) (kind : ReadType) (w : ℕ) → NamesStand names A
-    → refusal S A H (Event.OpenFile l p kind w) ≡ open_test S.block names (record { taken = has_label H l; labels = length H; worker = w; configured = is_configured S w; live = is_live A w }) p
-open_refusal S names A H l p kind w s =
+pub open_refusal : {D : Type 0} (S : Setup) (master : Mastering D) (A : State) (H : Hands) (l : Label) (p : Path) (kind : ReadType) (w : ℕ) → NamesStand master A
+    → refusal S A H (Event.OpenFile l p kind w) ≡ open_test S.block master (record { taken = has_label H l; labels = length H; worker = w; configured = is_configured S w; live = is_live A w }) p
+open_refusal S master A H l p kind w s =
     let c : Circumstance = record { taken = has_label H l; labels = length H; worker = w; configured = is_configured S w; live = is_live A w } in
-    let a = walk_fault (walk_nodes names.nodes p) in
-    let b = refuse Refusal.IsDirectory (is_none (file_there names p)) in
-    let d = refuse Refusal.Incomplete (passes_file (λ f. not f.done) (file_there names p)) in
-    rw (s.up, s.unlocked, s.nodes) (behind (refuse Refusal.BadLabel (has_label H l)) (None ∷ None ∷ a ∷ b ∷ d ∷ open_rest S.block names c p) (done_test names p ∷ open_rest S.block names c p) (sym (first_three a b d (open_rest S.block names c p))))
+    let a = walk_fault (walk_nodes master.kept.names.nodes p) in
+    let b = refuse Refusal.IsDirectory (is_none (file_there master p)) in
+    let d = refuse Refusal.Incomplete (passes_file (λ f. not f.done) (file_there master p)) in
+    rw (s.down, s.unlocked, nodes_are s) (behind (refuse Refusal.BadLabel (has_label H l)) (stop_test master ∷ None ∷ a ∷ b ∷ d ∷ open_rest S.block master c p) (stop_test master ∷ done_test master p ∷ open_rest S.block master c p) (behind (stop_test master) (None ∷ a ∷ b ∷ d ∷ open_rest S.block master c p) (done_test master p ∷ open_rest S.block master c p) (sym (first_three a b d (open_rest S.block master c p)))))
 
 -- more blocks than a file may have
 pub is_past : (len bs : ℕ) → 0 < bs → nat_lt (65536 * bs) len ≡ nat_lt 65536 (block_count len bs)
@@ -118,8 +120,8 @@ file_row_there (Some machineNode.Directory) f h = absurd (cc)
 file_row_there (Some (machineNode.IsFile g)) f h = ap (λ o. Some (machineNode.IsFile (unwrap_or o g))) h
 
 -- its number in the state
-id_there : (A : State) (names : NamesView) (p : Path) → NamesStand names A → (f : File) → file_there names p ≡ Some f → id_at A p ≡ f.id
-id_there A names p s f there = ap (λ (x : Option File). elim x as (λ o. ℕ) [ None ↦ 0 | Some g ↦ g.id ]) (ap (λ rows. option_and_then file_in (find_node rows p)) s.nodes ∙ there)
+id_there : {D : Type 0} (A : State) (master : Mastering D) (p : Path) → NamesStand master A → (f : File) → file_there master p ≡ Some f → id_at A p ≡ f.id
+id_there A master p s f there = ap (λ (x : Option File). elim x as (λ o. ℕ) [ None ↦ 0 | Some g ↦ g.id ]) (ap (λ rows. option_and_then file_in (find_node rows p)) (nodes_are s) ∙ there)
 
 -- the bytes of a file that is done
 bytes_there : (K : Knowledge) (contents : List Content) (f : File) → IsSomeAnd (content_row contents f.id) (λ c. (K.bytes_of f.id ≡ Some c.bytes) × (length c.bytes ≡ f.len)) → (K.bytes_of f.id ≡ Some (unwrap_or (option_map (λ c. c.bytes) (content_row contents f.id)) [])) × (length (unwrap_or (option_map (λ c. c.bytes) (content_row contents f.id)) []) ≡ f.len)
@@ -176,47 +178,47 @@ add_absent {T} i l t old new c = by_cases (slice_get old i) (slice_get new i) c.
 
 module _ {D S R W : Type 0} {d : disks.Ghosts D} (o : objects.Ghosts S R W) (r : reads.Ghosts R) (w : writes.Ghosts W) (old new : Core D S R W d w) (l : Label) (p : Path) (v i : ℕ) (within : i < 64) where
   -- the tests say the same of the core and of the machine
-  tests_alike : (U : Setup) (V : Whole) (s : Stands d o r w U old V) → refusal U V.body (hands_of V (suc i)) (Event.OpenFile l p ReadType.NoCache v) ≡ open_test old.block old.names (here old.workers.items old.hands.items (suc i) l v) p
+  tests_alike : (U : Setup) (V : Whole) (s : Stands d o r w U old V) → refusal U V.body (hands_of V (suc i)) (Event.OpenFile l p ReadType.NoCache v) ≡ open_test old.block old.master (here old.workers.items old.hands.items (suc i) l v) p
   tests_alike U V s =
       let H = hands_of V (suc i) in
       let live = is_live V.body v in
-      open_refusal U old.names V.body H l p ReadType.NoCache v s.names
-      ∙ ap (λ b. open_test b old.names (record { taken = has_label H l; labels = length H; worker = v; configured = is_configured U v; live = live }) p) s.setup.block
-      ∙ ap (λ t. open_test old.block old.names (record { taken = t; labels = length H; worker = v; configured = is_configured U v; live = live }) p) (taken_here r w s.known old.workers.items old.names.next_id old.block V.hands old.hands.items s.hands i within l)
-      ∙ ap (λ n. open_test old.block old.names (record { taken = has_here old.hands.items (suc i) l; labels = n; worker = v; configured = is_configured U v; live = live }) p) (counted_here r w s.known old.workers.items old.names.next_id old.block V.hands old.hands.items s.hands i within l)
-      ∙ ap (λ n. open_test old.block old.names (record { taken = has_here old.hands.items (suc i) l; labels = count_here old.hands.items (suc i); worker = v; configured = nat_lt 0 v && nat_le v n; live = live }) p) (ap length s.setup.tiers ∙ length-map old.workers.items sizes_of)
+      open_refusal U old.master V.body H l p ReadType.NoCache v s.names
+      ∙ ap (λ b. open_test b old.master (record { taken = has_label H l; labels = length H; worker = v; configured = is_configured U v; live = live }) p) s.setup.block
+      ∙ ap (λ t. open_test old.block old.master (record { taken = t; labels = length H; worker = v; configured = is_configured U v; live = live }) p) (taken_here r w s.known old.workers.items old.master.kept.names.next_id old.block V.hands old.hands.items s.hands i within l)
+      ∙ ap (λ n. open_test old.block old.master (record { taken = has_here old.hands.items (suc i) l; labels = n; worker = v; configured = is_configured U v; live = live }) p) (counted_here r w s.known old.workers.items old.master.kept.names.next_id old.block V.hands old.hands.items s.hands i within l)
+      ∙ ap (λ n. open_test old.block old.master (record { taken = has_here old.hands.items (suc i) l; labels = count_here old.hands.items (suc i); worker = v; configured = nat_lt 0 v && nat_le v n; live = live }) p) (ap length s.setup.tiers ∙ length-map old.workers.items sizes_of)
 
-  pub refused_at : (why : Refusal) → open_test old.block old.names (here old.workers.items old.hands.items (suc i) l v) p ≡ Some (Reply.Refused why) → Steps d o r w old old (suc i) (Event.OpenFile l p ReadType.NoCache v) (Reply.Refused why)
+  pub refused_at : (why : Refusal) → open_test old.block old.master (here old.workers.items old.hands.items (suc i) l v) p ≡ Some (Reply.Refused why) → Steps d o r w old old (suc i) (Event.OpenFile l p ReadType.NoCache v) (Reply.Refused why)
   refused_at why h = λ U V s. goes_refused o r w U old old V (suc i) (Event.OpenFile l p ReadType.NoCache v) (Reply.Refused why) s (tests_alike U V s ∙ h) refl refl
 
   pub short_at : KeepsRest old new → new.workers ≡ old.workers → ChangesAt old.hands.items new.hands.items i KeepsHands → Steps d o r w old new (suc i) (Event.OpenFile l p ReadType.NoCache v) (Reply.Refused Refusal.Memory)
-  short_at rest workers hands = λ U V s. goes_short o r w U old new V (suc i) (Event.OpenFile l p ReadType.NoCache v) (stands_by o r w U new V s.known old.block old.area old.names old.workers.items new.hands.items rest.block rest.area rest.names (ap (λ x. x.items) workers) refl (record {
+  short_at rest workers hands = λ U V s. goes_short o r w U old new V (suc i) (Event.OpenFile l p ReadType.NoCache v) (stands_by o r w U new V s.known old.block old.master.journal.limit old.master old.workers.items new.hands.items rest.block (ap (λ k. k.journal.limit) rest.master) rest.master (ap (λ x. x.items) workers) refl (record {
     setup = s.setup;
     named = s.names;
     workers = s.workers;
-    hands = hands_kept r w s.known old.workers.items old.names.next_id old.block i V.hands old.hands.items new.hands.items s.hands within hands;
+    hands = hands_kept r w s.known old.workers.items old.master.kept.names.next_id old.block i V.hands old.hands.items new.hands.items s.hands within hands;
     files = s.files;
     objects = s.objects;
   })) refl
 
   -- what is known of a file that is done
-  done_known : (U : Setup) (V : Whole) (s : Stands d o r w U old V) (f : File) → file_there old.names p ≡ Some f → f.done ≡ true → (f.id < old.names.next_id) × DoneFits s.known V.body.contents old.block f
+  done_known : (U : Setup) (V : Whole) (s : Stands d o r w U old V) (f : File) → file_there old.master p ≡ Some f → f.done ≡ true → (f.id < old.master.kept.names.next_id) × DoneFits s.known V.body.contents old.block f
   done_known U V s f there done =
-      let row = file_row_there (find_node old.names.nodes p) f there in
-      let fits : FileFits s.known V.body.contents old.names.next_id old.block (p, machineNode.IsFile f) = node_of_all (FileFits s.known V.body.contents old.names.next_id old.block) p (machineNode.IsFile f) old.names.nodes (file_anywhere s.known V.body.contents old.names.next_id old.block) s.files.each row in
+      let row = file_row_there (find_node old.master.kept.names.nodes p) f there in
+      let fits : FileFits s.known V.body.contents old.master.kept.names.next_id old.block (p, machineNode.IsFile f) = node_of_all (FileFits s.known V.body.contents old.master.kept.names.next_id old.block) p (machineNode.IsFile f) old.master.kept.names.nodes (file_anywhere s.known V.body.contents old.master.kept.names.next_id old.block) s.files.each row in
       (fits.0, fits.2 done)
 
-  pub opened_at : (f : File) → open_test old.block old.names (here old.workers.items old.hands.items (suc i) l v) p ≡ None → file_there old.names p ≡ Some f → f.done ≡ true → KeepsRest old new → new.workers ≡ old.workers
+  pub opened_at : (f : File) → open_test old.block old.master (here old.workers.items old.hands.items (suc i) l v) p ≡ None → file_there old.master p ≡ Some f → f.done ≡ true → KeepsRest old new → new.workers ≡ old.workers
       → ChangesAt old.hands.items new.hands.items i (AddsHand l (Hand.Reading (record { file = f.id; len = f.len; at = 0; worker = v; source = None }))) → Steps d o r w old new (suc i) (Event.OpenFile l p ReadType.NoCache v) (Reply.Opened f.len)
   opened_at f passes there done rest workers hands = λ U V s.
       let H = hands_of V (suc i) in
       let known = done_known U V s f there done in
       let content_is = bytes_there s.known V.body.contents f known.1.bytes in
-      let id : id_at V.body p ≡ f.id = id_there V.body old.names p s.names f there in
+      let id : id_at V.body p ≡ f.id = id_there V.body old.master p s.names f there in
       let m : machine.Stream = record { file = id_at V.body p; bs = U.block; bytes = content V.body (id_at V.body p); at = 0; kind = ReadType.NoCache; worker = v; source = None; cache = None } in
       let len : length (content V.body (id_at V.body p)) ≡ f.len = ap (λ n. length (content V.body n)) id ∙ content_is.1 in
       let after = put_back V (suc i) V.body (add_hand l (machine.Hand.Reading m) H) in
-      let fits : StreamFits r s.known old.names.next_id old.block m (record { file = f.id; len = f.len; at = 0; worker = v; source = None }) = record {
+      let fits : StreamFits r s.known old.master.kept.names.next_id old.block m (record { file = f.id; len = f.len; at = 0; worker = v; source = None }) = record {
         file = id;
         bs = s.setup.block;
         len = len;
@@ -227,7 +229,7 @@ module _ {D S R W : Type 0} {d : disks.Ghosts D} (o : objects.Ghosts S R W) (r :
         cache = refl;
         source = refl;
         reader = tt;
-        old = subst (λ n. n < old.names.next_id) (sym id) known.0;
+        old = subst (λ n. n < old.master.kept.names.next_id) (sym id) known.0;
         bytes = ap s.known.bytes_of id ∙ content_is.0 ∙ ap (λ n. Some (content V.body n)) (sym id);
         written = ap s.known.author id ∙ known.1.written;
       } in
@@ -236,11 +238,11 @@ module _ {D S R W : Type 0} {d : disks.Ghosts D} (o : objects.Ghosts S R W) (r :
         after = after;
         rise = no_rise;
         made = None;
-        stands = stands_by o r w U new after s.known old.block old.area old.names old.workers.items new.hands.items rest.block rest.area rest.names (ap (λ x. x.items) workers) refl (record {
+        stands = stands_by o r w U new after s.known old.block old.master.journal.limit old.master old.workers.items new.hands.items rest.block (ap (λ k. k.journal.limit) rest.master) rest.master (ap (λ x. x.items) workers) refl (record {
           setup = s.setup;
           named = s.names;
           workers = s.workers;
-          hands = hands_added r w s.known s.known old.workers.items old.workers.items old.names.next_id old.names.next_id old.block i l (leaves_all (suc i, l) s.known old.workers.items old.names.next_id) V.hands old.hands.items new.hands.items s.hands within (Hand.Reading (record { file = f.id; len = f.len; at = 0; worker = v; source = None })) (machine.Hand.Reading m) (absent_at r w s.known old.workers.items old.names.next_id old.block V.hands old.hands.items s.hands i within l (add_absent i l (Hand.Reading (record { file = f.id; len = f.len; at = 0; worker = v; source = None })) old.hands.items new.hands.items hands)) hands fits;
+          hands = hands_added r w s.known s.known old.workers.items old.workers.items old.master.kept.names.next_id old.master.kept.names.next_id old.block i l (leaves_all (suc i, l) s.known old.workers.items old.master.kept.names.next_id) V.hands old.hands.items new.hands.items s.hands within (Hand.Reading (record { file = f.id; len = f.len; at = 0; worker = v; source = None })) (machine.Hand.Reading m) (absent_at r w s.known old.workers.items old.master.kept.names.next_id old.block V.hands old.hands.items s.hands i within l (add_absent i l (Hand.Reading (record { file = f.id; len = f.len; at = 0; worker = v; source = None })) old.hands.items new.hands.items hands)) hands fits;
           files = s.files;
           objects = s.objects;
         });
@@ -248,7 +250,7 @@ module _ {D S R W : Type 0} {d : disks.Ghosts D} (o : objects.Ghosts S R W) (r :
         step = record {
           body = V.body;
           hands = add_hand l (machine.Hand.Reading m) H;
-          step = Step.Accepted (fault_free 0) (tests_alike U V s ∙ passes) refl (ap (λ fuse. fuse_serves fuse 0) s.names.unfused) refl shown refl;
+          step = Step.Accepted (fault_free 0) (tests_alike U V s ∙ passes) refl (serves_none V.body.master.fuse) refl shown refl;
           after = refl;
         };
       }
@@ -257,19 +259,19 @@ module _ {D S R W : Type 0} {d : disks.Ghosts D} (o : objects.Ghosts S R W) (r :
 
 -- what two events leave as it was
 pub rest_both : {D S R W : Type 0} {d : disks.Ghosts D} {w : writes.Ghosts W} {old mid new : Core D S R W d w} → KeepsRest old mid → KeepsRest mid new → KeepsRest old new
-rest_both a b = record { block = b.block ∙ a.block; area = b.area ∙ a.area; names = b.names ∙ a.names; areas = b.areas ∙ a.areas; stores = b.stores ∙ a.stores }
+rest_both a b = record { block = b.block ∙ a.block; master = b.master ∙ a.master; stores = b.stores ∙ a.stores }
 
 module _ {D S R W : Type 0} {d : disks.Ghosts D} (o : objects.Ghosts S R W) (r : reads.Ghosts R) (w : writes.Ghosts W) (old : Core D S R W d w) (who : ℕ) (actor : is_actor who ≡ true) (l : Label) (p : Path) (v : ℕ) where
-  pub open_refused : (why : Refusal) → open_test old.block old.names (here old.workers.items old.hands.items who l v) p ≡ Some (Reply.Refused why) → Steps d o r w old old who (Event.OpenFile l p ReadType.NoCache v) (Reply.Refused why)
-  open_refused why = by_actor (λ k. open_test old.block old.names (here old.workers.items old.hands.items k l v) p ≡ Some (Reply.Refused why) → Steps d o r w old old k (Event.OpenFile l p ReadType.NoCache v) (Reply.Refused why)) (λ i within. refused_at o r w old old l p v i within why) who actor
+  pub open_refused : (why : Refusal) → open_test old.block old.master (here old.workers.items old.hands.items who l v) p ≡ Some (Reply.Refused why) → Steps d o r w old old who (Event.OpenFile l p ReadType.NoCache v) (Reply.Refused why)
+  open_refused why = by_actor (λ k. open_test old.block old.master (here old.workers.items old.hands.items k l v) p ≡ Some (Reply.Refused why) → Steps d o r w old old k (Event.OpenFile l p ReadType.NoCache v) (Reply.Refused why)) (λ i within. refused_at o r w old old l p v i within why) who actor
 
   pub open_short : (new : Core D S R W d w) → KeepsRest old new → new.workers ≡ old.workers → ChangesAt old.hands.items new.hands.items (pred who) KeepsHands → Steps d o r w old new who (Event.OpenFile l p ReadType.NoCache v) (Reply.Refused Refusal.Memory)
   open_short new rest workers = by_actor (λ k. ChangesAt old.hands.items new.hands.items (pred k) KeepsHands → Steps d o r w old new k (Event.OpenFile l p ReadType.NoCache v) (Reply.Refused Refusal.Memory)) (λ i within. short_at o r w old new l p v i within rest workers) who actor
 
-  pub open_done : (mid new : Core D S R W d w) (f : File) (k : Label) → k ≡ l → open_test old.block old.names (here old.workers.items old.hands.items who l v) p ≡ None → file_there old.names p ≡ Some f → f.done ≡ true
+  pub open_done : (mid new : Core D S R W d w) (f : File) (k : Label) → k ≡ l → open_test old.block old.master (here old.workers.items old.hands.items who l v) p ≡ None → file_there old.master p ≡ Some f → f.done ≡ true
       → KeepsRest old mid → mid.workers ≡ old.workers → ChangesAt old.hands.items mid.hands.items (pred who) KeepsHands
       → KeepsRest mid new → new.workers ≡ mid.workers → ChangesAt mid.hands.items new.hands.items (pred who) (AddsHand k (Hand.Reading (record { file = f.id; len = f.len; at = 0; worker = v; source = None })))
       → Steps d o r w old new who (Event.OpenFile l p ReadType.NoCache v) (Reply.Opened f.len)
   open_done mid new f k same passes there done rest workers kept more more_workers added =
-      by_actor (λ j. open_test old.block old.names (here old.workers.items old.hands.items j l v) p ≡ None → ChangesAt old.hands.items mid.hands.items (pred j) KeepsHands → ChangesAt mid.hands.items new.hands.items (pred j) (AddsHand k (Hand.Reading (record { file = f.id; len = f.len; at = 0; worker = v; source = None }))) → Steps d o r w old new j (Event.OpenFile l p ReadType.NoCache v) (Reply.Opened f.len))
+      by_actor (λ j. open_test old.block old.master (here old.workers.items old.hands.items j l v) p ≡ None → ChangesAt old.hands.items mid.hands.items (pred j) KeepsHands → ChangesAt mid.hands.items new.hands.items (pred j) (AddsHand k (Hand.Reading (record { file = f.id; len = f.len; at = 0; worker = v; source = None }))) → Steps d o r w old new j (Event.OpenFile l p ReadType.NoCache v) (Reply.Opened f.len))
       (λ i within passes kept added. opened_at o r w old new l p v i within f passes there done (rest_both rest more) (more_workers ∙ workers) (adds_after i l k (Hand.Reading (record { file = f.id; len = f.len; at = 0; worker = v; source = None })) old.hands.items mid.hands.items new.hands.items same kept added)) who actor passes kept added

@@ -25,6 +25,7 @@ use Rattle.outside.specs.declared.disk.Disk as disks
 use Rattle.outside.specs.declared.objects.Objects as objects
 use Rattle.outside.specs.declared.objects.ObjectRead as reads
 use Rattle.outside.specs.declared.objects.ObjectWrite as writes
+use Rattle.cluster_core.proofs.Named.{serves_none}
 use Rattle.cluster_core.specs.Tiers.{ChangesAt}
 use Rattle.cluster_core.specs.LabelsView.{hand_in}
 use Rattle.cluster_core.specs.HandChanges.{SetsHand, KeepsHands, EndsHand, AddsHand}
@@ -164,7 +165,7 @@ module _ {D S R W : Type 0} {d : disks.Ghosts D} (o : objects.Ghosts S R W) (r :
   pub poll_missing : hand_at (hands_of V (suc i)) l ≡ None → ChangesAt old.hands.items new.hands.items i KeepsHands → Goes d o r w U old new V (suc i) (Event.Poll l max) (Reply.Refused Refusal.BadLabel)
   poll_missing at hands = goes_refused o r w U old new V (suc i) (Event.Poll l max) (Reply.Refused Refusal.BadLabel) (stays_kept o r w old new l i within rest workers U V s hands) (ap poll_test at) refl refl
 
-  module _ (x y : Stream R) (hands : ChangesAt old.hands.items new.hands.items i (SetsHand l (Hand.Reading x) (Hand.Reading y))) (m : machine.Stream) (at : hand_at (hands_of V (suc i)) l ≡ Some (machine.Hand.Reading m)) (fits : StreamFits r s.known old.names.next_id old.block m x) where
+  module _ (x y : Stream R) (hands : ChangesAt old.hands.items new.hands.items i (SetsHand l (Hand.Reading x) (Hand.Reading y))) (m : machine.Stream) (at : hand_at (hands_of V (suc i)) l ≡ Some (machine.Hand.Reading m)) (fits : StreamFits r s.known old.master.kept.names.next_id old.block m x) where
     abbrev H : Hands
     H = hands_of V (suc i)
 
@@ -206,7 +207,7 @@ module _ {D S R W : Type 0} {d : disks.Ghosts D} (o : objects.Ghosts S R W) (r :
       step = record {
         body = V.body;
         hands = H;
-        step = Step.Accepted (fault_free upper) passes refl (ap (λ fuse. fuse_serves fuse 0) s.names.unfused) (chosen upper (whole_amount upper)) (sym (does upper ∙ ap (own V.body) is)) refl;
+        step = Step.Accepted (fault_free upper) passes refl (serves_none V.body.master.fuse) (chosen upper (whole_amount upper)) (sym (does upper ∙ ap (own V.body) is)) refl;
         after = sym (put_same V (suc i));
       };
     }
@@ -253,21 +254,21 @@ module _ {D S R W : Type 0} {d : disks.Ghosts D} (o : objects.Ghosts S R W) (r :
         let is = found.1 in
         let good = found.2.0 in
         let n = length bytes in
-        let m_on : machine.Stream = moved_on r s.known old.names.next_id old.block old.blocks m x y fits n in
+        let m_on : machine.Stream = moved_on r s.known old.master.kept.names.next_id old.block old.blocks m x y fits n in
         let shown : ◌≡◌ {A = OwnOutcome} (done_by n) (Reply.Given bytes, set_hand l (machine.Hand.Reading m_on) H) =
         ap (λ b. by_tests n b (is_none m.source)) (before reads.inside)
-        ∙ ap (λ q. by_tests n false (is_none q)) (source_is r s.known old.names.next_id old.block old.blocks m x y fits b is good)
-        ∙ ap (λ bs. let z : OwnOutcome = (Reply.Given bs, set_hand l (machine.Hand.Reading m_on) H) in z) (sym (gave_is r s.known old.names.next_id old.block old.blocks m x y fits b is good max bytes found.2.1 reads.same)) in
+        ∙ ap (λ q. by_tests n false (is_none q)) (source_is r s.known old.master.kept.names.next_id old.block old.blocks m x y fits b is good)
+        ∙ ap (λ bs. let z : OwnOutcome = (Reply.Given bs, set_hand l (machine.Hand.Reading m_on) H) in z) (sym (gave_is r s.known old.master.kept.names.next_id old.block old.blocks m x y fits b is good max bytes found.2.1 reads.same)) in
         record {
           after = put_back V (suc i) V.body (set_hand l (machine.Hand.Reading m_on) H);
           rise = no_rise;
           made = None;
-          stands = stays_set o r w old new l i within rest workers U V s (Hand.Reading x) (Hand.Reading y) (machine.Hand.Reading m) (machine.Hand.Reading m_on) at hands (fits_on r s.known old.names.next_id old.block old.blocks m x y fits b is good max bytes found.2.1 reads.same);
+          stands = stays_set o r w old new l i within rest workers U V s (Hand.Reading x) (Hand.Reading y) (machine.Hand.Reading m) (machine.Hand.Reading m_on) at hands (fits_on r s.known old.master.kept.names.next_id old.block old.blocks m x y fits b is good max bytes found.2.1 reads.same);
           rises = Rises.Nothing;
           step = record {
             body = V.body;
             hands = set_hand l (machine.Hand.Reading m_on) H;
-            step = Step.Accepted (fault_free n) passes refl (ap (λ fuse. fuse_serves fuse 0) s.names.unfused) (chosen n (amount_is r s.known old.names.next_id old.block old.blocks m x y fits b is good max bytes found.2.1 reads.same)) (sym (does n ∙ ap (own V.body) shown)) refl;
+            step = Step.Accepted (fault_free n) passes refl (serves_none V.body.master.fuse) (chosen n (amount_is r s.known old.master.kept.names.next_id old.block old.blocks m x y fits b is good max bytes found.2.1 reads.same)) (sym (does n ∙ ap (own V.body) shown)) refl;
             after = refl;
           };
         }
@@ -293,10 +294,10 @@ module _ {D S R W : Type 0} {d : disks.Ghosts D} (o : objects.Ghosts S R W) (r :
         let next_source = there_is (Waited r b) y.source found.2.1 in
         let z = next_source.0 in
         let waited = next_source.2 in
-        let read = reader_of r s.known old.names.next_id old.block old.blocks m x y fits b is good in
+        let read = reader_of r s.known old.master.kept.names.next_id old.block old.blocks m x y fits b is good in
         let read_on : ReaderFits r m z = record { inside = read.inside; due = waited.due ∙ read.due; left = waited.left ∙ read.left } in
         let source : m.source ≡ source_of y.source = fits.source ∙ ap source_of is ∙ sym (same_source r b z waited.place) ∙ sym (ap source_of next_source.1) in
-        let fits_on : StreamFits r s.known old.names.next_id old.block m y = fits_in_place r s.known old.names.next_id old.block m x y fits m refl refl refl refl refl refl fits.cache (unmoved reads.same) source (subst (λ o. IfSome o (λ z. z.failed ≡ false → ReaderFits r m z)) (sym next_source.1) (λ still. read_on)) in
+        let fits_on : StreamFits r s.known old.master.kept.names.next_id old.block m y = fits_in_place r s.known old.master.kept.names.next_id old.block m x y fits m refl refl refl refl refl refl fits.cache (unmoved reads.same) source (subst (λ o. IfSome o (λ z. z.failed ≡ false → ReaderFits r m z)) (sym next_source.1) (λ still. read_on)) in
         record {
           after = put_back V (suc i) V.body (set_hand l (machine.Hand.Reading m) H);
           rise = wait_rise;
@@ -306,7 +307,7 @@ module _ {D S R W : Type 0} {d : disks.Ghosts D} (o : objects.Ghosts S R W) (r :
           step = record {
             body = V.body;
             hands = set_hand l (machine.Hand.Reading m) H;
-            step = Step.Waits (fault_free 0) passes refl (ap wait_test at ∙ ap (λ q. is_some q && true) (source_is r s.known old.names.next_id old.block old.blocks m x y fits b is good)) refl (sym (ap (waited_by false H l) at)) refl;
+            step = Step.Waits (fault_free 0) passes refl (ap wait_test at ∙ ap (λ q. is_some q && true) (source_is r s.known old.master.kept.names.next_id old.block old.blocks m x y fits b is good)) refl (sym (ap (waited_by false H l) at)) refl;
             after = refl;
           };
         }
@@ -330,10 +331,10 @@ module _ {D S R W : Type 0} {d : disks.Ghosts D} (o : objects.Ghosts S R W) (r :
         let z = next_source.0 in
         let lost = next_source.2 in
         let none : None ≡ source_of y.source = sym (ap source_of next_source.1 ∙ ap (λ f. cond f None (Some (Source.AtWorker z.worker z.tier))) lost.failed) in
-        let fits_on : StreamFits r s.known old.names.next_id old.block with_no_source y = fits_in_place r s.known old.names.next_id old.block m x y fits with_no_source refl refl refl refl refl refl fits.cache (unmoved reads.same) none (subst (λ o. IfSome o (λ z. z.failed ≡ false → ReaderFits r with_no_source z)) (sym next_source.1) (λ still. absurd (failed_not z.failed lost.failed still))) in
+        let fits_on : StreamFits r s.known old.master.kept.names.next_id old.block with_no_source y = fits_in_place r s.known old.master.kept.names.next_id old.block m x y fits with_no_source refl refl refl refl refl refl fits.cache (unmoved reads.same) none (subst (λ o. IfSome o (λ z. z.failed ≡ false → ReaderFits r with_no_source z)) (sym next_source.1) (λ still. absurd (failed_not z.failed lost.failed still))) in
         let may : may_test v ≡ true =
         ap (λ b. fault_test v b (hand_at H l)) (tier_rose v) ∙ ap (fault_test v true) at
-        ∙ ap (λ q. copy_may_fail remains (Device.TiersOf v) (machine.Hand.Reading (record m { source = q }))) (source_is r s.known old.names.next_id old.block old.blocks m x y fits b is good)
+        ∙ ap (λ q. copy_may_fail remains (Device.TiersOf v) (machine.Hand.Reading (record m { source = q }))) (source_is r s.known old.master.kept.names.next_id old.block old.blocks m x y fits b is good)
         ∙ eq-eqb v b.worker mine in
         record {
           after = put_back V (suc i) V.body (set_hand l (machine.Hand.Reading with_no_source) H);
@@ -356,7 +357,7 @@ module _ {D S R W : Type 0} {d : disks.Ghosts D} (o : objects.Ghosts S R W) (r :
         failed_not f yes_ not_ = cc
 
   -- by what the label has, and what the poll gave
-  by_gave : (x y : Stream R) (gave : Gave) → ChangesAt old.hands.items new.hands.items i (SetsHand l (Hand.Reading x) (Hand.Reading y)) → (m : machine.Stream) → hand_at (hands_of V (suc i)) l ≡ Some (machine.Hand.Reading m) → StreamFits r s.known old.names.next_id old.block m x → PollOf r old.block max x y gave → Goes d o r w U old new V (suc i) (Event.Poll l max) (reply_of gave)
+  by_gave : (x y : Stream R) (gave : Gave) → ChangesAt old.hands.items new.hands.items i (SetsHand l (Hand.Reading x) (Hand.Reading y)) → (m : machine.Stream) → hand_at (hands_of V (suc i)) l ≡ Some (machine.Hand.Reading m) → StreamFits r s.known old.master.kept.names.next_id old.block m x → PollOf r old.block max x y gave → Goes d o r w U old new V (suc i) (Event.Poll l max) (reply_of gave)
   by_gave x y Gave.BadLabel hands m at fits p = absurd p
   by_gave x y Gave.End hands m at fits p = poll_ended x y hands m at fits p.0 p.1
   by_gave x y (Gave.NeedsBlock n) hands m at fits p = poll_needs x y hands m at fits n p.0 p.1 p.2 p.3
@@ -369,7 +370,7 @@ module _ {D S R W : Type 0} {d : disks.Ghosts D} (o : objects.Ghosts S R W) (r :
   poll_writer : (t : Hand R W) (m : machine.Writer) → hand_at (hands_of V (suc i)) l ≡ Some (machine.Hand.Writing m) → ChangesAt old.hands.items new.hands.items i (SetsHand l t t) → Goes d o r w U old new V (suc i) (Event.Poll l max) (Reply.Refused Refusal.BadLabel)
   poll_writer t m at hands = goes_refused o r w U old new V (suc i) (Event.Poll l max) (Reply.Refused Refusal.BadLabel) (stays_kept o r w old new l i within rest workers U V s (sets_same i l t old.hands.items new.hands.items hands)) (ap poll_test at) refl refl
 
-  by_hands : (t u : Hand R W) (gave : Gave) → ChangesAt old.hands.items new.hands.items i (SetsHand l t u) → (k : machine.Hand) → hand_at (hands_of V (suc i)) l ≡ Some k → Fits r w s.known old.workers.items old.names.next_id old.block (suc i, l) k t → HandPolls r old.block max t u gave → Goes d o r w U old new V (suc i) (Event.Poll l max) (reply_of gave)
+  by_hands : (t u : Hand R W) (gave : Gave) → ChangesAt old.hands.items new.hands.items i (SetsHand l t u) → (k : machine.Hand) → hand_at (hands_of V (suc i)) l ≡ Some k → Fits r w s.known old.workers.items old.master.kept.names.next_id old.block (suc i, l) k t → HandPolls r old.block max t u gave → Goes d o r w U old new V (suc i) (Event.Poll l max) (reply_of gave)
   by_hands (Hand.Reading x) (Hand.Reading y) gave hands (machine.Hand.Reading m) at fits p = by_gave x y gave hands m at fits p
   by_hands (Hand.Reading x) (Hand.Reading y) gave hands (machine.Hand.Writing m) at fits p = absurd fits
   by_hands (Hand.Reading x) (Hand.Reading y) gave hands (machine.Hand.Moving m) at fits p = absurd fits
@@ -383,7 +384,7 @@ module _ {D S R W : Type 0} {d : disks.Ghosts D} (o : objects.Ghosts S R W) (r :
 
   pub polled_goes : (t u : Hand R W) (gave : Gave) → ChangesAt old.hands.items new.hands.items i (SetsHand l t u) → HandPolls r old.block max t u gave → Goes d o r w U old new V (suc i) (Event.Poll l max) (reply_of gave)
   polled_goes t u gave hands p =
-      let found = fits_at r w s.known old.workers.items old.names.next_id old.block V.hands old.hands.items s.hands i within l t (set_there i l t u old.hands.items new.hands.items hands) in
+      let found = fits_at r w s.known old.workers.items old.master.kept.names.next_id old.block V.hands old.hands.items s.hands i within l t (set_there i l t u old.hands.items new.hands.items hands) in
       by_hands t u gave hands found.0 found.1 found.2 p
 
 -- ---- for any actor
@@ -391,7 +392,7 @@ module _ {D S R W : Type 0} {d : disks.Ghosts D} (o : objects.Ghosts S R W) (r :
 module _ {D S R W : Type 0} {d : disks.Ghosts D} (o : objects.Ghosts S R W) (r : reads.Ghosts R) (w : writes.Ghosts W) (old mid : Core D S R W d w) (who : ℕ) (actor : is_actor who ≡ true) (l : Label) (max : ℕ) (rest : KeepsRest old mid) (workers : mid.workers ≡ old.workers) where
   pub poll_no_label : IsSomeAnd (slice_get old.hands.items (pred who)) (λ s. hand_in s l ≡ None) → ChangesAt old.hands.items mid.hands.items (pred who) KeepsHands → Steps d o r w old mid who (Event.Poll l max) (Reply.Refused Refusal.BadLabel)
   poll_no_label absent hands = by_actor (λ k. IsSomeAnd (slice_get old.hands.items (pred k)) (λ s. hand_in s l ≡ None) → ChangesAt old.hands.items mid.hands.items (pred k) KeepsHands → Steps d o r w old mid k (Event.Poll l max) (Reply.Refused Refusal.BadLabel))
-      (λ i within absent hands. λ U V s. poll_missing o r w old mid l max i within rest (ap (λ x. x.items) workers) U V s (absent_at r w s.known old.workers.items old.names.next_id old.block V.hands old.hands.items s.hands i within l absent) hands) who actor absent hands
+      (λ i within absent hands. λ U V s. poll_missing o r w old mid l max i within rest (ap (λ x. x.items) workers) U V s (absent_at r w s.known old.workers.items old.master.kept.names.next_id old.block V.hands old.hands.items s.hands i within l absent) hands) who actor absent hands
 
   pub poll_label : (new : Core D S R W d w) (t u : Hand R W) (k : Label) (gave : Gave) (reply : Reply) → reply ≡ reply_of gave → k ≡ l → ChangesAt old.hands.items mid.hands.items (pred who) (EndsHand l t) → KeepsRest mid new → new.workers ≡ mid.workers → ChangesAt mid.hands.items new.hands.items (pred who) (AddsHand k u)
       → HandPolls r mid.block max t u gave → Steps d o r w old new who (Event.Poll l max) reply

@@ -31,6 +31,7 @@ use Rattle.outside.specs.declared.objects.ObjectWrite as writes
 use Rattle.file_writer.specs.declared.parts.Block.{Block}
 use Rattle.file_writer.specs.Parts.{BlockTakes, ObjectTakes, open_block}
 use Rattle.file_writer.specs.Writing.{Writing, OnBlocks, wants_room}
+use Rattle.cluster_core.proofs.Named.{serves_none, writes_whole}
 use Rattle.cluster_core.specs.Tiers.{ChangesAt}
 use Rattle.cluster_core.specs.LabelsView.{LabelsView, hand_in}
 use Rattle.cluster_core.specs.HandChanges.{KeepsHands, AddsHand, SetsHand, EndsHand}
@@ -229,8 +230,8 @@ module _ {S W : Type 0} (w : writes.Ghosts W) (K : Knowledge) (nodes : List (Nod
         };
         reserved = reserved_same t.same;
         old = fits.old;
-        bytes = bytes_here K m.file next a m.taken piece fits.author fits.bytes;
-        author = fits.author;
+        bytes = bytes_here K m.file next a m.taken piece (writes_whole K m.file a x.broken fits.author whole) fits.bytes;
+        author = inl (writes_whole K m.file a x.broken fits.author whole);
       }
 
   -- it broke
@@ -250,7 +251,7 @@ module _ {S W : Type 0} (w : writes.Ghosts W) (K : Knowledge) (nodes : List (Nod
     reserved = reserved_same b.same;
     old = fits.old;
     bytes = fits.bytes;
-    author = fits.author;
+    author = elim fits.author [ inl mine ↦ inl mine | inr none ↦ inr (b.broken, none.1) ];
   }
 
 -- ---- the worker of an open block
@@ -319,11 +320,11 @@ module _ {D S R W : Type 0} {d : disks.Ghosts D} (o : objects.Ghosts S R W) (r :
   Leads reply = Goes d o r w U old new V (suc i) (Event.Put l fill) reply
 
   stands_still : ChangesAt old.hands.items new.hands.items i KeepsHands → Stands d o r w U new V
-  stands_still kept = stands_by o r w U new V s.known old.block old.area old.names old.workers.items new.hands.items rest.block rest.area rest.names (ap (λ x. x.items) workers) refl (record {
+  stands_still kept = stands_by o r w U new V s.known old.block old.master.journal.limit old.master old.workers.items new.hands.items rest.block (ap (λ k. k.journal.limit) rest.master) rest.master (ap (λ x. x.items) workers) refl (record {
     setup = s.setup;
     named = s.names;
     workers = s.workers;
-    hands = hands_kept r w s.known old.workers.items old.names.next_id old.block i V.hands old.hands.items new.hands.items s.hands within kept;
+    hands = hands_kept r w s.known old.workers.items old.master.kept.names.next_id old.block i V.hands old.hands.items new.hands.items s.hands within kept;
     files = s.files;
     objects = s.objects;
   })
@@ -336,11 +337,11 @@ module _ {D S R W : Type 0} {d : disks.Ghosts D} (o : objects.Ghosts S R W) (r :
 
   -- no such label
   pub put_absent : IsSomeAnd (slice_get old.hands.items i) (λ a. hand_in a l ≡ None) → ChangesAt old.hands.items new.hands.items i KeepsHands → Leads (Reply.Refused Refusal.BadLabel)
-  put_absent none kept = put_refused kept (ap (option_and_then unbroken_writer) (absent_at r w s.known old.workers.items old.names.next_id old.block V.hands old.hands.items s.hands i within l none))
+  put_absent none kept = put_refused kept (ap (option_and_then unbroken_writer) (absent_at r w s.known old.workers.items old.master.kept.names.next_id old.block V.hands old.hands.items s.hands i within l none))
 
   -- ---- a writer
 
-  module _ (x y : Writer W) (hands : ChangesAt old.hands.items new.hands.items i (SetsHand l (Hand.Writing x) (Hand.Writing y))) (m : machine.Writer) (at : hand_at (hands_of V (suc i)) l ≡ Some (machine.Hand.Writing m)) (fits : WriterFits w s.known old.workers.items old.names.next_id old.block (suc i, l) m x) where
+  module _ (x y : Writer W) (hands : ChangesAt old.hands.items new.hands.items i (SetsHand l (Hand.Writing x) (Hand.Writing y))) (m : machine.Writer) (at : hand_at (hands_of V (suc i)) l ≡ Some (machine.Hand.Writing m)) (fits : WriterFits w s.known old.workers.items old.master.kept.names.next_id old.block (suc i, l) m x) where
     kept_if : y ≡ x → ChangesAt old.hands.items new.hands.items i KeepsHands
     kept_if same = keeps_same i l (Hand.Writing x) (Hand.Writing y) old.hands.items new.hands.items (ap (λ z. let k : Hand R W = Hand.Writing z in k) same) hands
 
@@ -352,7 +353,7 @@ module _ {D S R W : Type 0} {d : disks.Ghosts D} (o : objects.Ghosts S R W) (r :
     put_does : (b : Bool) → x.broken ≡ false → wants_room x.bytes ≡ b → accepted U (fault_free 0) V.body (hands_of V (suc i)) (suc i) (Event.Put l fill) ≡ own V.body (put_if b U (hands_of V (suc i)) l fill m)
     put_does b whole wanted =
         ap (λ h. own V.body (put_by U (hands_of V (suc i)) l fill h)) (writer_there (hands_of V (suc i)) l m at (fits.broken ∙ whole))
-        ∙ ap (λ q. own V.body (put_if q U (hands_of V (suc i)) l fill m)) (wanted_is w s.known old.workers.items old.names.next_id old.block (suc i, l) m x y fits whole ∙ wanted)
+        ∙ ap (λ q. own V.body (put_if q U (hands_of V (suc i)) l fill m)) (wanted_is w s.known old.workers.items old.master.kept.names.next_id old.block (suc i, l) m x y fits whole ∙ wanted)
 
     put_wanting : x.broken ≡ false → wants_room x.bytes ≡ true → y ≡ x → Leads Reply.NeedsRoom
     put_wanting whole wanted same = record {
@@ -364,7 +365,7 @@ module _ {D S R W : Type 0} {d : disks.Ghosts D} (o : objects.Ghosts S R W) (r :
       step = record {
         body = V.body;
         hands = hands_of V (suc i);
-        step = Step.Accepted (fault_free 0) (put_passes whole) refl (ap (λ fuse. fuse_serves fuse 0) s.names.unfused) refl (sym (put_does true whole wanted)) refl;
+        step = Step.Accepted (fault_free 0) (put_passes whole) refl (serves_none V.body.master.fuse) refl (sym (put_does true whole wanted)) refl;
         after = sym (put_same V (suc i));
       };
     }
@@ -377,7 +378,7 @@ module _ {D S R W : Type 0} {d : disks.Ghosts D} (o : objects.Ghosts S R W) (r :
         let G = put_in H l m piece in
         let after = put_back V (suc i) V.body G in
         let holder : Holder = (suc i, l) in
-        let next = old.names.next_id in
+        let next = old.master.kept.names.next_id in
         let nodes = old.workers.items in
         let N = with_bytes m.file (m.taken ++ piece) s.known in
         let same : min (fill_len fill) (lacks m.bs m.block) ≡ n = ap (min (fill_len fill)) (lacks_is w s.known nodes next old.block holder m x y fits whole t.wanted) ∙ sym count in
@@ -387,20 +388,20 @@ module _ {D S R W : Type 0} {d : disks.Ghosts D} (o : objects.Ghosts S R W) (r :
           after = after;
           rise = no_rise;
           made = None;
-          stands = stands_by o r w U new after N old.block old.area old.names nodes new.hands.items rest.block rest.area rest.names (ap (λ v. v.items) workers) refl (record {
+          stands = stands_by o r w U new after N old.block old.master.journal.limit old.master nodes new.hands.items rest.block (ap (λ k. k.journal.limit) rest.master) rest.master (ap (λ v. v.items) workers) refl (record {
             setup = s.setup;
             named = s.names;
             workers = s.workers;
-            hands = hands_set r w s.known N nodes nodes next next old.block i l (leaves_put s.known m.file next holder m.taken piece fits.author fits.bytes nodes) V.hands old.hands.items new.hands.items s.hands within (Hand.Writing x) (Hand.Writing y) (machine.Hand.Writing m) (machine.Hand.Writing k) at hands
+            hands = hands_set r w s.known N nodes nodes next next old.block i l (leaves_put s.known m.file next holder m.taken piece (writes_whole s.known m.file (suc i, l) x.broken fits.author whole) fits.bytes nodes) V.hands old.hands.items new.hands.items s.hands within (Hand.Writing x) (Hand.Writing y) (machine.Hand.Writing m) (machine.Hand.Writing k) at hands
                 (took_fits w s.known nodes next old.block holder m x y fits piece few whole t);
-            files = files_put s.known m.file next holder m.taken piece fits.author fits.bytes old.block old.names.nodes V.body.contents s.files;
-            objects = nodes_stay s.known N next next old.block (known_put s.known m.file next holder m.taken piece fits.author fits.bytes) o nodes s.objects;
+            files = files_put s.known m.file next holder m.taken piece (writes_whole s.known m.file (suc i, l) x.broken fits.author whole) fits.bytes old.block old.master.kept.names.nodes V.body.contents s.files;
+            objects = nodes_stay s.known N next next old.block (known_put s.known m.file next holder m.taken piece (writes_whole s.known m.file (suc i, l) x.broken fits.author whole) fits.bytes) o nodes s.objects;
           });
           rises = Rises.Nothing;
           step = record {
             body = V.body;
             hands = G;
-            step = Step.Accepted (fault_free 0) (put_passes whole) refl (ap (λ fuse. fuse_serves fuse 0) s.names.unfused) refl done refl;
+            step = Step.Accepted (fault_free 0) (put_passes whole) refl (serves_none V.body.master.fuse) refl done refl;
             after = refl;
           };
         }
@@ -418,7 +419,7 @@ module _ {D S R W : Type 0} {d : disks.Ghosts D} (o : objects.Ghosts S R W) (r :
         let G = set_hand l (machine.Hand.Writing k) H in
         let after = put_back V (suc i) V.body G in
         let holder : Holder = (suc i, l) in
-        let next = old.names.next_id in
+        let next = old.master.kept.names.next_id in
         let nodes = old.workers.items in
         let there = writer_there H l m at (fits.broken ∙ whole) in
         let calls : put_calls m (Device.TiersOf v) ≡ true = called m v (wanted_is w s.known nodes next old.block holder m x y fits whole ∙ b.wanted) (fits.worker ∙ sym here) (room_is w s.known nodes next old.block holder m x y fits whole b.wanted) in
@@ -428,7 +429,7 @@ module _ {D S R W : Type 0} {d : disks.Ghosts D} (o : objects.Ghosts S R W) (r :
           after = after;
           rise = tier_rise v;
           made = None;
-          stands = stands_by o r w U new after s.known old.block old.area old.names nodes new.hands.items rest.block rest.area rest.names (ap (λ z. z.items) workers) refl (record {
+          stands = stands_by o r w U new after s.known old.block old.master.journal.limit old.master nodes new.hands.items rest.block (ap (λ k. k.journal.limit) rest.master) rest.master (ap (λ z. z.items) workers) refl (record {
             setup = s.setup;
             named = s.names;
             workers = s.workers;
@@ -460,7 +461,7 @@ module _ {D S R W : Type 0} {d : disks.Ghosts D} (o : objects.Ghosts S R W) (r :
 
   -- ---- what is under the label
 
-  put_by_kind : (h t : Hand R W) (end : PutEnd) → ChangesAt old.hands.items new.hands.items i (SetsHand l h t) → DidIn w old.block fill end h t → (k : machine.Hand) → hand_at (hands_of V (suc i)) l ≡ Some k → Fits r w s.known old.workers.items old.names.next_id old.block (suc i, l) k h → Leads (put_reply end)
+  put_by_kind : (h t : Hand R W) (end : PutEnd) → ChangesAt old.hands.items new.hands.items i (SetsHand l h t) → DidIn w old.block fill end h t → (k : machine.Hand) → hand_at (hands_of V (suc i)) l ≡ Some k → Fits r w s.known old.workers.items old.master.kept.names.next_id old.block (suc i, l) k h → Leads (put_reply end)
   put_by_kind (Hand.Writing x) (Hand.Writing y) end change d (machine.Hand.Writing m) at fits = put_writer x y change m at fits end d
   put_by_kind (Hand.Writing x) (Hand.Reading y) end change d k at fits = absurd d
   put_by_kind (Hand.Writing x) (Hand.Writing y) end change d (machine.Hand.Reading m) at fits = absurd fits
@@ -473,7 +474,7 @@ module _ {D S R W : Type 0} {d : disks.Ghosts D} (o : objects.Ghosts S R W) (r :
 
   pub put_goes : (h t : Hand R W) (end : PutEnd) → ChangesAt old.hands.items new.hands.items i (SetsHand l h t) → DidIn w old.block fill end h t → Leads (put_reply end)
   put_goes h t end change d =
-      let found = fits_at r w s.known old.workers.items old.names.next_id old.block V.hands old.hands.items s.hands i within l h (set_there i l h t old.hands.items new.hands.items change) in
+      let found = fits_at r w s.known old.workers.items old.master.kept.names.next_id old.block V.hands old.hands.items s.hands i within l h (set_there i l h t old.hands.items new.hands.items change) in
       put_by_kind h t end change d found.0 found.1 found.2
 
 -- ---- for an actor
@@ -488,7 +489,7 @@ module _ {D S R W : Type 0} {d : disks.Ghosts D} (o : objects.Ghosts S R W) (r :
   pub put_back_by : (new : Core D S R W d w) → KeepsRest mid new → new.workers ≡ mid.workers → (k : Label) (h t : Hand R W) → k ≡ l → ChangesAt old.hands.items mid.hands.items (pred who) (EndsHand l h) → ChangesAt mid.hands.items new.hands.items (pred who) (AddsHand k t)
       → (end : PutEnd) → DidIn w mid.block fill end h t → (reply : Reply) → reply ≡ put_reply end → Steps d o r w old new who (Event.Put l fill) reply
   put_back_by new more still k h t same ended added end did reply is =
-      let both : KeepsRest old new = record { block = more.block ∙ rest.block; area = more.area ∙ rest.area; names = more.names ∙ rest.names; areas = more.areas ∙ rest.areas; stores = more.stores ∙ rest.stores } in
+      let both : KeepsRest old new = record { block = more.block ∙ rest.block; master = more.master ∙ rest.master; stores = more.stores ∙ rest.stores } in
       let here : DidIn w old.block fill end h t = subst (λ b. DidIn w b fill end h t) rest.block did in
       subst (λ q. Steps d o r w old new who (Event.Put l fill) q) (sym is)
       (by_actor (λ v. ChangesAt old.hands.items new.hands.items (pred v) (SetsHand l h t) → Steps d o r w old new v (Event.Put l fill) (put_reply end))

@@ -38,14 +38,14 @@ module _ {D S R W : Type 0} {d : disks.Ghosts D} (o : objects.Ghosts S R W) (r :
   pub after_short : mid.workers ≡ now.workers → y ≡ x → StepsFrom d o r w now new who l x (Event.Room l) (Reply.Refused Refusal.Memory)
   after_short same is = ends_short o r w now new l who actor x y (kept_twice now mid new rest after) puts (workers ∙ same) is
 
-  pub after_lost : None ≡ room_test now.names.nodes now.workers.items now.block x → wants_room x.bytes ≡ true → (x.room ≡ None → ⊥) → IfSome x.room (λ n. IfSome (block_writer x.bytes) (λ pen. ChangesAt now.workers.items mid.workers.items (pred x.worker) (Loses o w n (key_at now.workers.items x.worker n) pen (finished_of now.names.nodes now.block x)))) → y ≡ closed_writer true x → StepsFrom d o r w now new who l x (Event.Room l) (Reply.Refused (Refusal.TierFault x.worker))
-  after_lost h wanted some lost is = ends_lost o r w now new l who actor x y (kept_twice now mid new rest after) puts h wanted some (subst (λ z. IfSome x.room (λ n. IfSome (block_writer x.bytes) (λ pen. ChangesAt now.workers.items z.items (pred x.worker) (Loses o w n (key_at now.workers.items x.worker n) pen (finished_of now.names.nodes now.block x))))) (sym workers) lost) is
+  pub after_lost : None ≡ room_test now.master now.workers.items now.block x → wants_room x.bytes ≡ true → (x.room ≡ None → ⊥) → IfSome x.room (λ n. IfSome (block_writer x.bytes) (λ pen. ChangesAt now.workers.items mid.workers.items (pred x.worker) (Loses o w n (key_at now.workers.items x.worker n) pen (finished_of now.master.kept.names.nodes now.block x)))) → y ≡ closed_writer true x → StepsFrom d o r w now new who l x (Event.Room l) (Reply.Refused (Refusal.TierFault x.worker))
+  after_lost h wanted some lost is = ends_lost o r w now new l who actor x y (kept_twice now mid new rest after) puts h wanted some (subst (λ z. IfSome x.room (λ n. IfSome (block_writer x.bytes) (λ pen. ChangesAt now.workers.items z.items (pred x.worker) (Loses o w n (key_at now.workers.items x.worker n) pen (finished_of now.master.kept.names.nodes now.block x))))) (sym workers) lost) is
 
 -- ---- the commit was done
 
 module _ {D S R W : Type 0} {d : disks.Ghosts D} (o : objects.Ghosts S R W) (r : reads.Ghosts R) (w : writes.Ghosts W) (now mid at new : Core D S R W d w) (l : Label) (who : ℕ) (actor : is_actor who ≡ true) (x y : Writer W) (first : KeepsRest now mid) (taken : mid.hands ≡ now.hands) (then : KeepsRest mid at) (held : at.hands ≡ mid.hands) (after : KeepsRest at new) (workers : new.workers ≡ at.workers) (put : ChangesAt at.hands.items new.hands.items (pred who) (AddsHand l (Hand.Writing y)))
-    (h : None ≡ room_test now.names.nodes now.workers.items now.block x) (wanted : wants_room x.bytes ≡ true)
-    (done : IfSome x.room (λ n. IfSome (block_writer x.bytes) (λ pen. ChangesAt now.workers.items mid.workers.items (pred x.worker) (Commits o w n (key_at now.workers.items x.worker n) pen (finished_of now.names.nodes now.block x)))))
+    (h : None ≡ room_test now.master now.workers.items now.block x) (wanted : wants_room x.bytes ≡ true)
+    (done : IfSome x.room (λ n. IfSome (block_writer x.bytes) (λ pen. ChangesAt now.workers.items mid.workers.items (pred x.worker) (Commits o w n (key_at now.workers.items x.worker n) pen (finished_of now.master.kept.names.nodes now.block x)))))
     (kept : x.room ≡ None → mid.workers ≡ now.workers) where
   all : KeepsRest now new
   all = kept_twice now at new (kept_twice now mid at first then) after

@@ -1,5 +1,5 @@
 -- The ends of Room behind a commit as steps of the file machine.
-use Rattle.std.proofs.Common.{◌≡◌, ℕ, suc, pred, ◌-◌, ◌/◌, ◌<◌, ◌^◌, true, false, not, ◌&&◌, ◌||◌, cond, List, length, nat_eq, nat_le, Option, Some, None, is_none, refl, sym, ap, ◌∙◌, arith}
+use Rattle.std.proofs.Common.{◌≡◌, ℕ, suc, pred, ◌-◌, ◌/◌, ◌<◌, ◌^◌, true, false, not, ◌&&◌, ◌||◌, cond, List, [], ◌∷◌, length, nat_eq, nat_le, Option, Some, None, is_none, refl, sym, ap, ◌∙◌, arith}
 use Rattle.std.specs.Prelude.{IsSome}
 use Rattle.std.proofs.lemmas.List.{set-get_or}
 use Rattle.std.proofs.lemmas.Bool.{eq-eqb}
@@ -23,6 +23,8 @@ use Rattle.outside.specs.declared.objects.Objects as objects
 use Rattle.outside.specs.declared.objects.ObjectRead as reads
 use Rattle.outside.specs.declared.objects.ObjectWrite as writes
 use Rattle.file_writer.specs.Writing.{block_writer, wants_room}
+use Rattle.cluster_core.specs.Names.{stop_test}
+use Rattle.cluster_core.proofs.NamesSteps.{none_first}
 use Rattle.cluster_core.specs.Tiers.{ChangesAt}
 use Rattle.cluster_core.specs.Here.{runs_here}
 use Rattle.cluster_core.specs.HandChanges.{SetsHand}
@@ -103,13 +105,13 @@ module _ (U : Setup) (A : State) (m : machine.Writer) where
     pub left_by : (fate : BlockFate) → (let k : machine.Writer = record m { broken = true; block = cond (keeps_block (begun_as fate) A m) m.block None } in k) ≡ (let k : machine.Writer = record m { broken = true; block = None } in k)
     left_by fate = ap (λ b. record m { broken = true; block = cond (not (true && b) && false) m.block None }) stands
 
-module _ {D S R W : Type 0} {d : disks.Ghosts D} (o : objects.Ghosts S R W) (r : reads.Ghosts R) (w : writes.Ghosts W) (was new : Core D S R W d w) (l : Label) (i : ℕ) (within : i < 64) (x : Writer W) (whole : x.broken ≡ false) (U : Setup) (V : Whole) (s : Stands d o r w U was V) (m : machine.Writer) (at : hand_at (hands_of V (suc i)) l ≡ Some (machine.Hand.Writing m)) (f : WriterFits w s.known was.workers.items was.names.next_id was.block (suc i, l) m x) (rest : KeepsRest was new) (passes : room_test was.names.nodes was.workers.items was.block x ≡ None) (wanted : wants_room x.bytes ≡ true) where
+module _ {D S R W : Type 0} {d : disks.Ghosts D} (o : objects.Ghosts S R W) (r : reads.Ghosts R) (w : writes.Ghosts W) (was new : Core D S R W d w) (l : Label) (i : ℕ) (within : i < 64) (x : Writer W) (whole : x.broken ≡ false) (U : Setup) (V : Whole) (s : Stands d o r w U was V) (m : machine.Writer) (at : hand_at (hands_of V (suc i)) l ≡ Some (machine.Hand.Writing m)) (f : WriterFits w s.known was.workers.items was.master.kept.names.next_id was.block (suc i, l) m x) (rest : KeepsRest was new) (passes : room_test was.master was.workers.items was.block x ≡ None) (wanted : wants_room x.bytes ≡ true) where
   -- what the tests say
-  all_pass : (refuse Refusal.NotFound (is_none (file_row was.names.nodes x.file)) ≡ None) × (past Which.Blocks (wants_room x.bytes && nat_le 65536 (block_count x.bytes.len was.block)) ≡ None) × (past Which.Ids (wants_room x.bytes && nat_le (2 ^ 63) (next_of (at_number was.workers.items x.worker))) ≡ None) × (refuse (Refusal.NoWorker x.worker) (not (runs_here was.workers.items x.worker x.started)) ≡ None) × (refuse (Refusal.NoRoom x.worker) (wants_room x.bytes && lacks_room x.bytes.bs (at_number was.workers.items x.worker)) ≡ None)
-  all_pass = five_pass (refuse Refusal.NotFound (is_none (file_row was.names.nodes x.file))) (past Which.Blocks (wants_room x.bytes && nat_le 65536 (block_count x.bytes.len was.block))) (past Which.Ids (wants_room x.bytes && nat_le (2 ^ 63) (next_of (at_number was.workers.items x.worker)))) (refuse (Refusal.NoWorker x.worker) (not (runs_here was.workers.items x.worker x.started))) (refuse (Refusal.NoRoom x.worker) (wants_room x.bytes && lacks_room x.bytes.bs (at_number was.workers.items x.worker))) passes
+  all_pass : (refuse Refusal.NotFound (is_none (file_row was.master.kept.names.nodes x.file)) ≡ None) × (past Which.Blocks (wants_room x.bytes && nat_le 65536 (block_count x.bytes.len was.block)) ≡ None) × (past Which.Ids (wants_room x.bytes && nat_le (2 ^ 63) (next_of (at_number was.workers.items x.worker))) ≡ None) × (refuse (Refusal.NoWorker x.worker) (not (runs_here was.workers.items x.worker x.started)) ≡ None) × (refuse (Refusal.NoRoom x.worker) (wants_room x.bytes && lacks_room x.bytes.bs (at_number was.workers.items x.worker)) ≡ None)
+  all_pass = five_pass (refuse Refusal.NotFound (is_none (file_row was.master.kept.names.nodes x.file))) (past Which.Blocks (wants_room x.bytes && nat_le 65536 (block_count x.bytes.len was.block))) (past Which.Ids (wants_room x.bytes && nat_le (2 ^ 63) (next_of (at_number was.workers.items x.worker)))) (refuse (Refusal.NoWorker x.worker) (not (runs_here was.workers.items x.worker x.started))) (refuse (Refusal.NoRoom x.worker) (wants_room x.bytes && lacks_room x.bytes.bs (at_number was.workers.items x.worker))) (none_first (stop_test was.master) (refuse Refusal.NotFound (is_none (file_row was.master.kept.names.nodes x.file)) ∷ past Which.Blocks (wants_room x.bytes && nat_le 65536 (block_count x.bytes.len was.block)) ∷ past Which.Ids (wants_room x.bytes && nat_le (2 ^ 63) (next_of (at_number was.workers.items x.worker))) ∷ refuse (Refusal.NoWorker x.worker) (not (runs_here was.workers.items x.worker x.started)) ∷ refuse (Refusal.NoRoom x.worker) (wants_room x.bytes && lacks_room x.bytes.bs (at_number was.workers.items x.worker)) ∷ []) passes).1
 
-  pub tests : (is_none (file_row was.names.nodes x.file) ≡ false) × (not (runs_here was.workers.items x.worker x.started) ≡ false)
-  tests = (not_refused Refusal.NotFound (is_none (file_row was.names.nodes x.file)) all_pass.0, not_refused (Refusal.NoWorker x.worker) (not (runs_here was.workers.items x.worker x.started)) all_pass.3)
+  pub tests : (is_none (file_row was.master.kept.names.nodes x.file) ≡ false) × (not (runs_here was.workers.items x.worker x.started) ≡ false)
+  tests = (not_refused Refusal.NotFound (is_none (file_row was.master.kept.names.nodes x.file)) all_pass.0, not_refused (Refusal.NoWorker x.worker) (not (runs_here was.workers.items x.worker x.started)) all_pass.3)
 
   pub numbers_left : (wants_room x.bytes && nat_le (2 ^ 63) (next_of (at_number was.workers.items x.worker))) ≡ false
   numbers_left = not_refused (Refusal.Limit Which.Ids) (wants_room x.bytes && nat_le (2 ^ 63) (next_of (at_number was.workers.items x.worker))) all_pass.2
@@ -120,17 +122,17 @@ module _ {D S R W : Type 0} {d : disks.Ghosts D} (o : objects.Ghosts S R W) (r :
   pub room_left : (wants_room x.bytes && lacks_room x.bytes.bs (at_number was.workers.items x.worker)) ≡ false
   room_left = not_refused (Refusal.NoRoom x.worker) (wants_room x.bytes && lacks_room x.bytes.bs (at_number was.workers.items x.worker)) all_pass.4
 
-  pub file : IsSome (file_row was.names.nodes x.file)
-  file = there_some (file_row was.names.nodes x.file) tests.0
+  pub file : IsSome (file_row was.master.kept.names.nodes x.file)
+  file = there_some (file_row was.master.kept.names.nodes x.file) tests.0
 
   pub runs : runs_here was.workers.items x.worker x.started ≡ true
   runs = is_true (runs_here was.workers.items x.worker x.started) tests.1
 
   pub stands : writer_stands V.body m ≡ true
-  stands = stands_same o w U V.body was.names was.workers.items was.block was.area was.names.next_id s.known (suc i, l) s.names s.workers s.setup s.objects was.small m x f whole ∙ runs
+  stands = stands_same o w U V.body was.master was.workers.items was.block was.master.journal.limit was.master.kept.names.next_id s.known (suc i, l) s.names s.workers s.setup s.objects was.small m x f whole ∙ runs
 
   pub wants : block_wanted m.bs m.block ≡ true
-  wants = wanted_is o w U V.body was.names was.workers.items was.block was.area was.names.next_id s.known (suc i, l) s.names s.workers s.setup s.objects was.small m x f whole ∙ wanted
+  wants = wanted_is o w U V.body was.master was.workers.items was.block was.master.journal.limit was.master.kept.names.next_id s.known (suc i, l) s.names s.workers s.setup s.objects was.small m x f whole ∙ wanted
 
   pub no_refusal : refusal U V.body (hands_of V (suc i)) (Event.Room l) ≡ None
   no_refusal = refusal_is o r w was l i within x whole U V s m at f ∙ passes
@@ -140,13 +142,13 @@ module _ {D S R W : Type 0} {d : disks.Ghosts D} (o : objects.Ghosts S R W) (r :
   after_known = without_owner x.worker x.room s.known
 
   -- the parts after the commit
-  module _ (mid : List (Node S)) (commits : (n : ℕ) (pen : W) → x.room ≡ Some n → block_writer x.bytes ≡ Some pen → ChangesAt was.workers.items mid (pred x.worker) (Commits o w n (key_at was.workers.items x.worker n) pen (finished_of was.names.nodes was.block x))) (kept : x.room ≡ None → mid ≡ was.workers.items) where
-    pub committed : AfterCommit o U V.body m s.known after_known (suc i, l) was.workers.items mid was.names.next_id was.block was.area
-    committed = after_commit o w s.known was.names was.workers.items mid was.block was.area i l m x f whole was.blocks was.small U V.body s.names s.workers s.setup s.objects V.body.contents s.files.each stands runs file x.room refl wanted commits kept
+  module _ (mid : List (Node S)) (commits : (n : ℕ) (pen : W) → x.room ≡ Some n → block_writer x.bytes ≡ Some pen → ChangesAt was.workers.items mid (pred x.worker) (Commits o w n (key_at was.workers.items x.worker n) pen (finished_of was.master.kept.names.nodes was.block x))) (kept : x.room ≡ None → mid ≡ was.workers.items) where
+    pub committed : AfterCommit o U V.body m s.known after_known (suc i, l) was.workers.items mid was.master.kept.names.next_id was.block was.master.journal.limit
+    committed = after_commit o w s.known was.master was.workers.items mid was.block was.master.journal.limit i l m x f whole was.blocks was.small U V.body s.names s.workers s.setup s.objects V.body.contents s.files.each stands runs file x.room refl wanted commits kept
 
   -- ---- the block was committed, and memory was short
 
-  pub room_closed : AfterCommit o U V.body m s.known after_known (suc i, l) was.workers.items new.workers.items was.names.next_id was.block was.area → ChangesAt was.hands.items new.hands.items i (SetsHand l (Hand.Writing x) (Hand.Writing (closed_writer false x))) → Goes d o r w U was new V (suc i) (Event.Room l) (Reply.Refused Refusal.Memory)
+  pub room_closed : AfterCommit o U V.body m s.known after_known (suc i, l) was.workers.items new.workers.items was.master.kept.names.next_id was.block was.master.journal.limit → ChangesAt was.hands.items new.hands.items i (SetsHand l (Hand.Writing x) (Hand.Writing (closed_writer false x))) → Goes d o r w U was new V (suc i) (Event.Room l) (Reply.Refused Refusal.Memory)
   room_closed parts hands =
       let H = hands_of V (suc i) in
       let B = close_block U V.body m in
@@ -158,12 +160,12 @@ module _ {D S R W : Type 0} {d : disks.Ghosts D} (o : objects.Ghosts S R W) (r :
         after = after;
         rise = no_rise;
         made = None;
-        stands = stands_by o r w U new after after_known was.block was.area was.names new.workers.items new.hands.items rest.block rest.area rest.names refl refl (record {
+        stands = stands_by o r w U new after after_known was.block was.master.journal.limit was.master new.workers.items new.hands.items rest.block (ap (λ k. k.journal.limit) rest.master) rest.master refl refl (record {
           setup = parts.setup;
-          named = record { nodes = s.names.nodes; gate = s.names.gate; next_id = s.names.next_id; unlocked = s.names.unlocked; up = s.names.up; unfused = s.names.unfused };
+          named = record { names = s.names.names; gate = s.names.gate; generation = s.names.generation; fuse = s.names.fuse; down = s.names.down; unlocked = s.names.unlocked };
           workers = record { rows = parts.workers.rows; registrations = parts.workers.registrations; first = parts.workers.first };
-          hands = hands_set r w s.known after_known was.workers.items new.workers.items was.names.next_id was.names.next_id was.block i l parts.leaves V.hands was.hands.items new.hands.items s.hands within (Hand.Writing x) (Hand.Writing (closed_writer false x)) (machine.Hand.Writing m) (machine.Hand.Writing k) at hands (closed_fits w s.known after_known was.workers.items new.workers.items was.names.next_id was.block (suc i, l) m x f whole known.0 known.1 wanted);
-          files = files_owned s.known x.room x.worker was.names.next_id was.block was.names.nodes V.body.contents s.files;
+          hands = hands_set r w s.known after_known was.workers.items new.workers.items was.master.kept.names.next_id was.master.kept.names.next_id was.block i l parts.leaves V.hands was.hands.items new.hands.items s.hands within (Hand.Writing x) (Hand.Writing (closed_writer false x)) (machine.Hand.Writing m) (machine.Hand.Writing k) at hands (closed_fits w s.known after_known was.workers.items new.workers.items was.master.kept.names.next_id was.block (suc i, l) m x f whole known.0 known.1 wanted);
+          files = files_owned s.known x.room x.worker was.master.kept.names.next_id was.block was.master.kept.names.nodes V.body.contents s.files;
           objects = parts.nodes_stand;
         });
         rises = Rises.Nothing;
@@ -192,7 +194,7 @@ module _ {D S R W : Type 0} {d : disks.Ghosts D} (o : objects.Ghosts S R W) (r :
   left = record m { broken = true; block = None }
 
   -- the block was committed, and the next one got no room
-  pub room_failed : AfterCommit o U V.body m s.known after_known (suc i, l) was.workers.items new.workers.items was.names.next_id was.block was.area → ChangesAt was.hands.items new.hands.items i (SetsHand l (Hand.Writing x) (Hand.Writing (closed_writer true x))) → (t : ℕ) → TierRose o r w was new x.worker t → Goes d o r w U was new V (suc i) (Event.Room l) (Reply.Refused (Refusal.TierFault x.worker))
+  pub room_failed : AfterCommit o U V.body m s.known after_known (suc i, l) was.workers.items new.workers.items was.master.kept.names.next_id was.block was.master.journal.limit → ChangesAt was.hands.items new.hands.items i (SetsHand l (Hand.Writing x) (Hand.Writing (closed_writer true x))) → (t : ℕ) → TierRose o r w was new x.worker t → Goes d o r w U was new V (suc i) (Event.Room l) (Reply.Refused (Refusal.TierFault x.worker))
   room_failed parts hands t rose_there =
       let H = hands_of V (suc i) in
       let B = close_block U V.body m in
@@ -203,12 +205,12 @@ module _ {D S R W : Type 0} {d : disks.Ghosts D} (o : objects.Ghosts S R W) (r :
         after = after;
         rise = tier_rise x.worker;
         made = None;
-        stands = stands_by o r w U new after after_known was.block was.area was.names new.workers.items new.hands.items rest.block rest.area rest.names refl refl (record {
+        stands = stands_by o r w U new after after_known was.block was.master.journal.limit was.master new.workers.items new.hands.items rest.block (ap (λ k. k.journal.limit) rest.master) rest.master refl refl (record {
           setup = parts.setup;
-          named = record { nodes = s.names.nodes; gate = s.names.gate; next_id = s.names.next_id; unlocked = s.names.unlocked; up = s.names.up; unfused = s.names.unfused };
+          named = record { names = s.names.names; gate = s.names.gate; generation = s.names.generation; fuse = s.names.fuse; down = s.names.down; unlocked = s.names.unlocked };
           workers = record { rows = parts.workers.rows; registrations = parts.workers.registrations; first = parts.workers.first };
-          hands = hands_set r w s.known after_known was.workers.items new.workers.items was.names.next_id was.names.next_id was.block i l parts.leaves V.hands was.hands.items new.hands.items s.hands within (Hand.Writing x) (Hand.Writing (closed_writer true x)) (machine.Hand.Writing m) (machine.Hand.Writing left) at hands (broken_fits w s.known after_known was.workers.items new.workers.items was.names.next_id was.block (suc i, l) m x f whole known.0 known.1);
-          files = files_owned s.known x.room x.worker was.names.next_id was.block was.names.nodes V.body.contents s.files;
+          hands = hands_set r w s.known after_known was.workers.items new.workers.items was.master.kept.names.next_id was.master.kept.names.next_id was.block i l parts.leaves V.hands was.hands.items new.hands.items s.hands within (Hand.Writing x) (Hand.Writing (closed_writer true x)) (machine.Hand.Writing m) (machine.Hand.Writing left) at hands (broken_fits w s.known after_known was.workers.items new.workers.items was.master.kept.names.next_id was.block (suc i, l) m x f whole known.0 known.1);
+          files = files_owned s.known x.room x.worker was.master.kept.names.next_id was.block was.master.kept.names.nodes V.body.contents s.files;
           objects = parts.nodes_stand;
         });
         rises = Rises.OfTier x.worker t rose_there;

@@ -22,6 +22,7 @@ use Rattle.outside.specs.declared.objects.Objects as objects
 use Rattle.outside.specs.declared.objects.ObjectRead as reads
 use Rattle.outside.specs.declared.objects.ObjectWrite as writes
 use Rattle.file_writer.specs.Writing.{wants_room}
+use Rattle.cluster_core.proofs.Named.{serves_none}
 use Rattle.cluster_core.specs.Tiers.{ChangesAt}
 use Rattle.cluster_core.specs.HandChanges.{SetsHand}
 use Rattle.cluster_core.specs.HandFits.{WriterFits}
@@ -60,15 +61,15 @@ pub there_some : {X : Type 0} (y : Option X) → is_none y ≡ false → IsSome 
 there_some None h = absurd (cc)
 there_some (Some x) h = refl
 
-module _ {D S R W : Type 0} {d : disks.Ghosts D} (o : objects.Ghosts S R W) (r : reads.Ghosts R) (w : writes.Ghosts W) (was : Core D S R W d w) (l : Label) (i : ℕ) (within : i < 64) (x : Writer W) (whole : x.broken ≡ false) (U : Setup) (V : Whole) (s : Stands d o r w U was V) (m : machine.Writer) (at : hand_at (hands_of V (suc i)) l ≡ Some (machine.Hand.Writing m)) (f : WriterFits w s.known was.workers.items was.names.next_id was.block (suc i, l) m x) where
+module _ {D S R W : Type 0} {d : disks.Ghosts D} (o : objects.Ghosts S R W) (r : reads.Ghosts R) (w : writes.Ghosts W) (was : Core D S R W d w) (l : Label) (i : ℕ) (within : i < 64) (x : Writer W) (whole : x.broken ≡ false) (U : Setup) (V : Whole) (s : Stands d o r w U was V) (m : machine.Writer) (at : hand_at (hands_of V (suc i)) l ≡ Some (machine.Hand.Writing m)) (f : WriterFits w s.known was.workers.items was.master.kept.names.next_id was.block (suc i, l) m x) where
   -- the label's writer on the machine's side
   pub writer_is : writer_at (hands_of V (suc i)) l ≡ Some m
   writer_is = ap (option_and_then unbroken_writer) at ∙ ap (λ b. cond b None (Some m)) (f.broken ∙ whole)
 
-  pub refusal_is : refusal U V.body (hands_of V (suc i)) (Event.Room l) ≡ room_test was.names.nodes was.workers.items was.block x
+  pub refusal_is : refusal U V.body (hands_of V (suc i)) (Event.Room l) ≡ room_test was.master was.workers.items was.block x
   refusal_is =
       ap (λ (y : Option machine.Writer). elim y as (λ t. Option Reply) [ None ↦ bad_label | Some k ↦ room_refusal_of U V.body k ]) writer_is
-      ∙ room_tests_are o w U V.body was.names was.workers.items was.block was.area was.names.next_id s.known (suc i, l) s.names s.workers s.setup s.objects was.small m x f whole
+      ∙ room_tests_are o w U V.body was.master was.workers.items was.block was.master.journal.limit was.master.kept.names.next_id s.known (suc i, l) s.names s.workers s.setup s.objects was.small m x f whole
 
   -- ---- nothing happens
 
@@ -76,16 +77,16 @@ module _ {D S R W : Type 0} {d : disks.Ghosts D} (o : objects.Ghosts S R W) (r :
     still : Stands d o r w U new V
     still = stands_kept o r w U V was new i within rest workers (keeps_same i l (Hand.Writing x) (Hand.Writing x) was.hands.items new.hands.items refl hands) s
 
-    pub room_refused : (why : Refusal) → Some (Reply.Refused why) ≡ room_test was.names.nodes was.workers.items was.block x → Goes d o r w U was new V (suc i) (Event.Room l) (Reply.Refused why)
+    pub room_refused : (why : Refusal) → Some (Reply.Refused why) ≡ room_test was.master was.workers.items was.block x → Goes d o r w U was new V (suc i) (Event.Room l) (Reply.Refused why)
     room_refused why h = goes_refused o r w U was new V (suc i) (Event.Room l) (Reply.Refused why) still (refusal_is ∙ sym h) refl refl
 
     pub room_short : Goes d o r w U was new V (suc i) (Event.Room l) (Reply.Refused Refusal.Memory)
     room_short = goes_short o r w U was new V (suc i) (Event.Room l) still refl
 
-    pub room_same : room_test was.names.nodes was.workers.items was.block x ≡ None → wants_room x.bytes ≡ false → Goes d o r w U was new V (suc i) (Event.Room l) Reply.Done
+    pub room_same : room_test was.master was.workers.items was.block x ≡ None → wants_room x.bytes ≡ false → Goes d o r w U was new V (suc i) (Event.Room l) Reply.Done
     room_same passes wanted =
         let H = hands_of V (suc i) in
-        let wants : block_wanted m.bs m.block ≡ false = wanted_is o w U V.body was.names was.workers.items was.block was.area was.names.next_id s.known (suc i, l) s.names s.workers s.setup s.objects was.small m x f whole ∙ wanted in
+        let wants : block_wanted m.bs m.block ≡ false = wanted_is o w U V.body was.master was.workers.items was.block was.master.journal.limit was.master.kept.names.next_id s.known (suc i, l) s.names s.workers s.setup s.objects was.small m x f whole ∙ wanted in
         let done : ◌≡◌ {A = Outcome} (Reply.Done, V.body, H) (accepted U (fault_free 0) V.body H (suc i) (Event.Room l)) =
         sym (ap (λ y. with_reply Reply.Done (room_by U V.body H l y)) writer_is ∙ ap (λ b. with_reply Reply.Done (room_if b U V.body H l m)) wants) in
         record {
@@ -97,7 +98,7 @@ module _ {D S R W : Type 0} {d : disks.Ghosts D} (o : objects.Ghosts S R W) (r :
           step = record {
             body = V.body;
             hands = H;
-            step = Step.Accepted (fault_free 0) (refusal_is ∙ passes) refl (ap (λ fuse. fuse_serves fuse 0) s.names.unfused) refl done refl;
+            step = Step.Accepted (fault_free 0) (refusal_is ∙ passes) refl (serves_none V.body.master.fuse) refl done refl;
             after = sym (put_same V (suc i));
           };
         }

@@ -21,6 +21,7 @@ use Rattle.outside.specs.declared.objects.Objects as objects
 use Rattle.outside.specs.declared.objects.ObjectRead as reads
 use Rattle.outside.specs.declared.objects.ObjectWrite as writes
 use Rattle.file_writer.specs.Writing.{block_writer, wants_room}
+use Rattle.cluster_core.proofs.Named.{serves_none, writes_whole}
 use Rattle.cluster_core.specs.Tiers.{ChangesAt}
 use Rattle.cluster_core.specs.Here.{runs_here}
 use Rattle.cluster_core.specs.HandChanges.{SetsHand}
@@ -89,7 +90,7 @@ use Rattle.inode_tree.specs.Rows.{file_row}
 use Rattle.fs_model.specs.BytesEvents.{writer_stands}
 use Rattle.cluster_core.proofs.LostBlock.{lost_known, lost_rows, lost_leaves, lost_nodes, lost_rose, lost_tier}
 
-module _ {D S R W : Type 0} {d : disks.Ghosts D} (o : objects.Ghosts S R W) (r : reads.Ghosts R) (w : writes.Ghosts W) (was new : Core D S R W d w) (l : Label) (i : ℕ) (within : i < 64) (x : Writer W) (whole : x.broken ≡ false) (U : Setup) (V : Whole) (s : Stands d o r w U was V) (m : machine.Writer) (at : hand_at (hands_of V (suc i)) l ≡ Some (machine.Hand.Writing m)) (f : WriterFits w s.known was.workers.items was.names.next_id was.block (suc i, l) m x) (rest : KeepsRest was new) (passes : room_test was.names.nodes was.workers.items was.block x ≡ None) (wanted : wants_room x.bytes ≡ true) where
+module _ {D S R W : Type 0} {d : disks.Ghosts D} (o : objects.Ghosts S R W) (r : reads.Ghosts R) (w : writes.Ghosts W) (was new : Core D S R W d w) (l : Label) (i : ℕ) (within : i < 64) (x : Writer W) (whole : x.broken ≡ false) (U : Setup) (V : Whole) (s : Stands d o r w U was V) (m : machine.Writer) (at : hand_at (hands_of V (suc i)) l ≡ Some (machine.Hand.Writing m)) (f : WriterFits w s.known was.workers.items was.master.kept.names.next_id was.block (suc i, l) m x) (rest : KeepsRest was new) (passes : room_test was.master was.workers.items was.block x ≡ None) (wanted : wants_room x.bytes ≡ true) where
   -- the worker's node
   node_of : (x' : Option (Node S)) → by_node (λ n. n.running && nat_eq n.started x.started) x' ≡ true → (a : Node S) × (x' ≡ Some a)
   node_of None h = absurd (cc)
@@ -114,24 +115,24 @@ module _ {D S R W : Type 0} {d : disks.Ghosts D} (o : objects.Ghosts S R W) (r :
   between_same : (a b : Node S) → b ≡ a → Between a b
   between_same a b same = subst (Between a) (sym same) (record { number = refl; none = λ len h. h; less = same_no_less o a a refl; tiers = refl })
 
-  module _ (mid : List (Node S)) (commits : (n : ℕ) (pen : W) → x.room ≡ Some n → block_writer x.bytes ≡ Some pen → ChangesAt was.workers.items mid (pred x.worker) (Commits o w n (key_at was.workers.items x.worker n) pen (finished_of was.names.nodes was.block x))) (kept : x.room ≡ None → mid ≡ was.workers.items) where
-    parts : AfterCommit o U V.body m s.known (without_owner x.worker x.room s.known) (suc i, l) was.workers.items mid was.names.next_id was.block was.area
+  module _ (mid : List (Node S)) (commits : (n : ℕ) (pen : W) → x.room ≡ Some n → block_writer x.bytes ≡ Some pen → ChangesAt was.workers.items mid (pred x.worker) (Commits o w n (key_at was.workers.items x.worker n) pen (finished_of was.master.kept.names.nodes was.block x))) (kept : x.room ≡ None → mid ≡ was.workers.items) where
+    parts : AfterCommit o U V.body m s.known (without_owner x.worker x.room s.known) (suc i, l) was.workers.items mid was.master.kept.names.next_id was.block was.master.journal.limit
     parts = committed o r w was new l i within x whole U V s m at f rest passes wanted mid commits kept
 
     between_by : (e : Option ℕ) → x.room ≡ e → (a b : Node S) → slice_get was.workers.items (pred x.worker) ≡ Some a → slice_get mid (pred x.worker) ≡ Some b → Between a b
     between_by None none a b was_there there = between_same a b (same_Some b a (sym there ∙ ap (λ ns. slice_get ns (pred x.worker)) (kept none) ∙ was_there))
     between_by (Some n) reserved a b was_there there =
-        let k = known o w s.known was.names was.workers.items was.block (suc i, l) m x f whole was.blocks was.small n reserved in
+        let k = known o w s.known was.master was.workers.items was.block (suc i, l) m x f whole was.blocks was.small n reserved in
         let change = commits n k.3 reserved k.4 in
         let both = both_there (slice_get was.workers.items (pred x.worker)) (slice_get mid (pred x.worker)) change.at in
         let first : both.0 ≡ a = same_Some both.0 a (sym both.2 ∙ was_there) in
         let second : both.1 ≡ b = same_Some both.1 b (sym both.3 ∙ there) in
-        let q = room_there o w s.known s.known was.names was.workers.items mid was.block was.area i l m x f whole was.blocks was.small U V.body s.names s.workers s.setup s.objects V.body.contents s.files.each (stands o r w was new l i within x whole U V s m at f rest passes wanted) runs_it (file o r w was new l i within x whole U V s m at f rest passes wanted) n reserved both.0 both.2 in
-        let fits : (finished_of was.names.nodes was.block x).len ≤ q.0.bytes = subst (λ z. (finished_of was.names.nodes was.block x).len ≤ z) (sym q.2) (within_block o w s.known was.names was.workers.items was.block (suc i, l) m x f whole was.blocks was.small n reserved) in
+        let q = room_there o w s.known s.known was.master was.workers.items mid was.block was.master.journal.limit i l m x f whole was.blocks was.small U V.body s.names s.workers s.setup s.objects V.body.contents s.files.each (stands o r w was new l i within x whole U V s m at f rest passes wanted) runs_it (file o r w was new l i within x whole U V s m at f rest passes wanted) n reserved both.0 both.2 in
+        let fits : (finished_of was.master.kept.names.nodes was.block x).len ≤ q.0.bytes = subst (λ z. (finished_of was.master.kept.names.nodes was.block x).len ≤ z) (sym q.2) (within_block o w s.known was.master was.workers.items was.block (suc i, l) m x f whole was.blocks was.small n reserved) in
         subst (λ z. Between z b) first (subst (Between both.0) second (record {
-          number = number_committed o w n (key_at was.workers.items x.worker n) k.3 (finished_of was.names.nodes was.block x) both.0 both.1 q.0 q.1 fits both.4;
-          none = none_before o w n (key_at was.workers.items x.worker n) k.3 (finished_of was.names.nodes was.block x) both.0 both.1 q.0 q.1 fits both.4;
-          less = commit_no_less o w n (key_at was.workers.items x.worker n) k.3 (finished_of was.names.nodes was.block x) both.0 both.1 q.0 q.1 fits both.4;
+          number = number_committed o w n (key_at was.workers.items x.worker n) k.3 (finished_of was.master.kept.names.nodes was.block x) both.0 both.1 q.0 q.1 fits both.4;
+          none = none_before o w n (key_at was.workers.items x.worker n) k.3 (finished_of was.master.kept.names.nodes was.block x) both.0 both.1 q.0 q.1 fits both.4;
+          less = commit_no_less o w n (key_at was.workers.items x.worker n) k.3 (finished_of was.master.kept.names.nodes was.block x) both.0 both.1 q.0 q.1 fits both.4;
           tiers = both.1.sized ∙ ap length both.4.sizes ∙ sym both.0.sized;
         }))
 
@@ -200,12 +201,12 @@ module _ {D S R W : Type 0} {d : disks.Ghosts D} (o : objects.Ghosts S R W) (r :
       number_is : (worker A1 m.worker).next ≡ k
       number_is =
           ap (λ v. (worker A1 v).next) (f.worker ∙ at_place)
-          ∙ next_is o U A1 mid parts.workers was.block was.area parts.setup (pred x.worker)
+          ∙ next_is o U A1 mid parts.workers was.block was.master.journal.limit parts.setup (pred x.worker)
           ∙ ap next_of nodes_at.2
           ∙ sym tier.2.number
 
       placed_there : placed U A1 m.worker None m.bs ≡ Some (tier.0, [])
-      placed_there = ap₂ (λ v n. placed U A1 v None n) (f.worker ∙ at_place) (f.bs ∙ sym f.blocks) ∙ placed_is o U A1 mid parts.workers was.block was.area parts.setup (pred x.worker) nodes_at.0 nodes_at.2 x.bytes.bs tier.0 tier.1
+      placed_there = ap₂ (λ v n. placed U A1 v None n) (f.worker ∙ at_place) (f.bs ∙ sym f.blocks) ∙ placed_is o U A1 mid parts.workers was.block was.master.journal.limit parts.setup (pred x.worker) nodes_at.0 nodes_at.2 x.bytes.bs tier.0 tier.1
 
       takes : take_room (placed U A1 m.worker None m.bs) m.worker m.bs A1 ≡ change_worker m.worker (with_room tier.0 [] x.bytes.bs) A1
       takes = ap₂ (λ p n. take_room p m.worker n A1) placed_there (f.bs ∙ sym f.blocks)
@@ -213,10 +214,10 @@ module _ {D S R W : Type 0} {d : disks.Ghosts D} (o : objects.Ghosts S R W) (r :
       workers_after : WorkersStand new.workers.items (take_room (placed U A1 m.worker None m.bs) m.worker m.bs A1)
       workers_after = subst (WorkersStand new.workers.items) (sym takes) (workers_change (with_room tier.0 [] x.bytes.bs) mid new.workers.items m.worker (subst (λ v. ChangesAt mid new.workers.items (pred v) (RowChanges (with_room tier.0 [] x.bytes.bs))) (sym f.worker) rows) A1 parts.workers)
 
-      nodes_after : NodesStand o (opened_known k) was.names.next_id was.block new.workers.items
-      nodes_after = nodes_spaced o (without_owner x.worker x.room s.known) was.names.next_id was.block k (pred x.worker) (suc i, l) mid new.workers.items (λ a b. (a ≡ nodes_at.0) × (b ≡ nodes_at.1)) mine (λ a b h e. subst (NodeStands o (opened_known k) was.names.next_id was.block (suc (pred x.worker))) (sym e.1) (node_spaced o k x.bytes.bs tier.0 nodes_at.0 nodes_at.1 tier.2 tier.3 few (without_owner x.worker x.room s.known) was.names.next_id was.block (suc (pred x.worker)) (suc i, l) (subst (NodeStands o (without_owner x.worker x.room s.known) was.names.next_id was.block (suc (pred x.worker))) e.0 h))) parts.nodes_stand
+      nodes_after : NodesStand o (opened_known k) was.master.kept.names.next_id was.block new.workers.items
+      nodes_after = nodes_spaced o (without_owner x.worker x.room s.known) was.master.kept.names.next_id was.block k (pred x.worker) (suc i, l) mid new.workers.items (λ a b. (a ≡ nodes_at.0) × (b ≡ nodes_at.1)) mine (λ a b h e. subst (NodeStands o (opened_known k) was.master.kept.names.next_id was.block (suc (pred x.worker))) (sym e.1) (node_spaced o k x.bytes.bs tier.0 nodes_at.0 nodes_at.1 tier.2 tier.3 few (without_owner x.worker x.room s.known) was.master.kept.names.next_id was.block (suc (pred x.worker)) (suc i, l) (subst (NodeStands o (without_owner x.worker x.room s.known) was.master.kept.names.next_id was.block (suc (pred x.worker))) e.0 h))) parts.nodes_stand
 
-      node_stands : NodeStands o (without_owner x.worker x.room s.known) was.names.next_id was.block (suc (pred x.worker)) nodes_at.0
+      node_stands : NodeStands o (without_owner x.worker x.room s.known) was.master.kept.names.next_id was.block (suc (pred x.worker)) nodes_at.0
       node_stands = parts.nodes_stand (pred x.worker) nodes_at.0 nodes_at.2
 
       -- nobody had the number
@@ -224,7 +225,7 @@ module _ {D S R W : Type 0} {d : disks.Ghosts D} (o : objects.Ghosts S R W) (r :
       nobody = node_stands.fresh k (let h = tier.2.number in omega (arith, h))
 
       -- what others rest on, over both changes
-      leaves_after : Leaves (suc i, l) s.known (opened_known k) was.workers.items new.workers.items was.names.next_id was.names.next_id
+      leaves_after : Leaves (suc i, l) s.known (opened_known k) was.workers.items new.workers.items was.master.kept.names.next_id was.master.kept.names.next_id
       leaves_after = record {
         later = omega arith;
         files = parts.leaves.files;
@@ -252,7 +253,7 @@ module _ {D S R W : Type 0} {d : disks.Ghosts D} (o : objects.Ghosts S R W) (r :
             let room : room_numbered k nodes_at.1.book.rooms ≡ Some (record { number = k; tier = tier.0; bytes = x.bytes.bs }) = ap (room_numbered k) tier.2.rooms ∙ found_last k (record { number = k; tier = tier.0; bytes = x.bytes.bs }) nodes_at.0.book.rooms (subst (λ z. All (λ q. q.number < z) nodes_at.0.book.rooms) (sym tier.2.number) node_stands.rooms) refl in
             subst (λ z. IsSomeAnd z (λ node. node.started ≡ x.started → IsSomeAnd (room_numbered k node.book.rooms) (λ q. q.bytes ≡ was.block))) (sym (ap (at_number new.workers.items) at_place ∙ at_suc new.workers.items (pred x.worker) ∙ nodes_at.3)) (λ _. subst (λ z. IsSomeAnd z (λ q. q.bytes ≡ was.block)) (sym room) f.blocks)
 
-        fits_next : WriterFits w (opened_known k) new.workers.items was.names.next_id was.block (suc i, l) next_writer y
+        fits_next : WriterFits w (opened_known k) new.workers.items was.master.kept.names.next_id was.block (suc i, l) next_writer y
         fits_next =
             let known = same_files s.known x.room x.worker m.file in
             record {
@@ -265,7 +266,7 @@ module _ {D S R W : Type 0} {d : disks.Ghosts D} (o : objects.Ghosts S R W) (r :
               start = f.start ∙ sym (ap (λ z. z.started) opens.fields);
               broken = f.broken ∙ sym (ap (λ z. z.broken) opens.fields);
               room = ap Some number_is ∙ sym reserved;
-              short = let q : length m.taken + was.block ≤ 65536 * was.block = one_more (length m.taken) was.block was.blocks (ap (λ n. nat_le 65536 (block_count n was.block)) (len_is o w U V.body was.names was.workers.items was.block was.area was.names.next_id s.known (suc i, l) s.names s.workers s.setup s.objects was.small m x f whole) ∙ sym (ap (λ b. b && nat_le 65536 (block_count x.bytes.len was.block)) wanted) ∙ blocks_left o r w was new l i within x whole U V s m at f rest passes wanted) in omega (arith, q);
+              short = let q : length m.taken + was.block ≤ 65536 * was.block = one_more (length m.taken) was.block was.blocks (ap (λ n. nat_le 65536 (block_count n was.block)) (len_is o w U V.body was.master was.workers.items was.block was.master.journal.limit was.master.kept.names.next_id s.known (suc i, l) s.names s.workers s.setup s.objects was.small m x f whole) ∙ sym (ap (λ b. b && nat_le 65536 (block_count x.bytes.len was.block)) wanted) ∙ blocks_left o r w was new l i within x whole U V s m at f rest passes wanted) in omega (arith, q);
               on = λ _. record {
                 block = (λ j. let z : Option OpenBlock = Some (record { room = Some (number_is j); len = 0 }) in z) ∙ empty_block w k y.bytes.block opens.empty ∙ ap (λ e. open_of e y.bytes.block) (sym reserved);
                 taken = has m.taken (closed_taken w x.room x.bytes m.taken (f.on whole).taken);
@@ -277,7 +278,7 @@ module _ {D S R W : Type 0} {d : disks.Ghosts D} (o : objects.Ghosts S R W) (r :
               reserved = subst (λ e. IfSome e (λ n. ((opened_known k).owner y.worker n ≡ Some (suc i, l)) × HasRoomOf new.workers.items y.worker y.started n was.block)) (sym reserved) (owner_is, subst (λ v. HasRoomOf new.workers.items v y.started k was.block) (sym (ap (λ z. z.worker) opens.fields)) (subst (λ v. HasRoomOf new.workers.items x.worker v k was.block) (sym (ap (λ z. z.started) opens.fields)) there_room));
               old = f.old;
               bytes = known.0 ∙ f.bytes;
-              author = known.1 ∙ f.author;
+              author = inl (known.1 ∙ writes_whole s.known m.file (suc i, l) x.broken f.author whole);
             }
           where
             owner_is : (opened_known k).owner y.worker k ≡ Some (suc i, l)
@@ -295,19 +296,19 @@ module _ {D S R W : Type 0} {d : disks.Ghosts D} (o : objects.Ghosts S R W) (r :
               after = after;
               rise = no_rise;
               made = None;
-              stands = stands_by o r w U new after (opened_known k) was.block was.area was.names new.workers.items new.hands.items rest.block rest.area rest.names refl refl (record {
+              stands = stands_by o r w U new after (opened_known k) was.block was.master.journal.limit was.master new.workers.items new.hands.items rest.block (ap (λ k. k.journal.limit) rest.master) rest.master refl refl (record {
                 setup = setup_stays (with_room tier.0 [] x.bytes.bs) mid new.workers.items x.worker rows parts.setup;
-                named = record { nodes = s.names.nodes; gate = s.names.gate; next_id = s.names.next_id; unlocked = s.names.unlocked; up = s.names.up; unfused = s.names.unfused };
+                named = record { names = s.names.names; gate = s.names.gate; generation = s.names.generation; fuse = s.names.fuse; down = s.names.down; unlocked = s.names.unlocked };
                 workers = record { rows = workers_after.rows; registrations = workers_after.registrations; first = workers_after.first };
-                hands = hands_set r w s.known (opened_known k) was.workers.items new.workers.items was.names.next_id was.names.next_id was.block i l leaves_after V.hands was.hands.items new.hands.items s.hands within (Hand.Writing x) (Hand.Writing y) (machine.Hand.Writing m) (machine.Hand.Writing next_writer) at hands fits_next;
-                files = files_given (without_owner x.worker x.room s.known) (suc (pred x.worker)) k (suc i, l) was.names.next_id was.block was.names.nodes V.body.contents (files_owned s.known x.room x.worker was.names.next_id was.block was.names.nodes V.body.contents s.files);
+                hands = hands_set r w s.known (opened_known k) was.workers.items new.workers.items was.master.kept.names.next_id was.master.kept.names.next_id was.block i l leaves_after V.hands was.hands.items new.hands.items s.hands within (Hand.Writing x) (Hand.Writing y) (machine.Hand.Writing m) (machine.Hand.Writing next_writer) at hands fits_next;
+                files = files_given (without_owner x.worker x.room s.known) (suc (pred x.worker)) k (suc i, l) was.master.kept.names.next_id was.block was.master.kept.names.nodes V.body.contents (files_owned s.known x.room x.worker was.master.kept.names.next_id was.block was.master.kept.names.nodes V.body.contents s.files);
                 objects = nodes_after;
               });
               rises = Rises.Nothing;
               step = record {
                 body = B;
                 hands = G;
-                step = Step.Accepted (fault_free 0) (no_refusal o r w was new l i within x whole U V s m at f rest passes wanted) refl (ap (λ fuse. fuse_serves fuse 0) s.names.unfused) refl done refl;
+                step = Step.Accepted (fault_free 0) (no_refusal o r w was new l i within x whole U V s m at f rest passes wanted) refl (serves_none V.body.master.fuse) refl done refl;
                 after = refl;
               };
             }
@@ -315,13 +316,13 @@ module _ {D S R W : Type 0} {d : disks.Ghosts D} (o : objects.Ghosts S R W) (r :
     -- ---- the worker got no reservation
 
     -- the parts stay where the worker has what it had
-    pub parts_kept : (len : ℕ) → ChangesAt mid new.workers.items (pred x.worker) (KeepsNode o len) → AfterCommit o U V.body m s.known (without_owner x.worker x.room s.known) (suc i, l) was.workers.items new.workers.items was.names.next_id was.block was.area
+    pub parts_kept : (len : ℕ) → ChangesAt mid new.workers.items (pred x.worker) (KeepsNode o len) → AfterCommit o U V.body m s.known (without_owner x.worker x.room s.known) (suc i, l) was.workers.items new.workers.items was.master.kept.names.next_id was.block was.master.journal.limit
     parts_kept len change =
         let rows : ChangesAt mid new.workers.items (pred x.worker) (RowChanges (λ k. k)) = changes_by mid new.workers.items (pred x.worker) change (λ a b c. row_kept o len a b c) in
         record {
           workers = subst (WorkersStand new.workers.items) (λ j. record (close_block U V.body m) { workers = set-get_or (close_block U V.body m).workers (pred x.worker) no_worker j }) (workers_change (λ k. k) mid new.workers.items x.worker rows (close_block U V.body m) parts.workers);
           setup = setup_stays (λ k. k) mid new.workers.items x.worker rows parts.setup;
-          nodes_stand = nodes_change o (without_owner x.worker x.room s.known) (without_owner x.worker x.room s.known) was.names.next_id was.names.next_id was.block (known_all (without_owner x.worker x.room s.known) was.names.next_id) mid new.workers.items (pred x.worker) (KeepsNode o len) change (λ v a b h c. node_kept o (without_owner x.worker x.room s.known) was.names.next_id was.block v len a b c h) parts.nodes_stand;
+          nodes_stand = nodes_change o (without_owner x.worker x.room s.known) (without_owner x.worker x.room s.known) was.master.kept.names.next_id was.master.kept.names.next_id was.block (known_all (without_owner x.worker x.room s.known) was.master.kept.names.next_id) mid new.workers.items (pred x.worker) (KeepsNode o len) change (λ v a b h c. node_kept o (without_owner x.worker x.room s.known) was.master.kept.names.next_id was.block v len a b c h) parts.nodes_stand;
           leaves = record {
             later = omega arith;
             files = parts.leaves.files;
@@ -347,11 +348,11 @@ module _ {D S R W : Type 0} {d : disks.Ghosts D} (o : objects.Ghosts S R W) (r :
 
   -- ---- the commit failed
 
-  module _ (n : ℕ) (reserved : x.room ≡ Some n) (lost : (pen : W) → block_writer x.bytes ≡ Some pen → ChangesAt was.workers.items new.workers.items (pred x.worker) (Loses o w n (key_at was.workers.items x.worker n) pen (finished_of was.names.nodes was.block x))) where
+  module _ (n : ℕ) (reserved : x.room ≡ Some n) (lost : (pen : W) → block_writer x.bytes ≡ Some pen → ChangesAt was.workers.items new.workers.items (pred x.worker) (Loses o w n (key_at was.workers.items x.worker n) pen (finished_of was.master.kept.names.nodes was.block x))) where
     it_stands : writer_stands V.body m ≡ true
     it_stands = stands o r w was new l i within x whole U V s m at f rest passes wanted
 
-    its_file : IsSome (file_row was.names.nodes x.file)
+    its_file : IsSome (file_row was.master.kept.names.nodes x.file)
     its_file = file o r w was new l i within x whole U V s m at f rest passes wanted
 
     pub room_lost : ChangesAt was.hands.items new.hands.items i (SetsHand l (Hand.Writing x) (Hand.Writing (closed_writer true x))) → Goes d o r w U was new V (suc i) (Event.Room l) (Reply.Refused (Refusal.TierFault x.worker))
@@ -363,17 +364,17 @@ module _ {D S R W : Type 0} {d : disks.Ghosts D} (o : objects.Ghosts S R W) (r :
         let after = put_back V (suc i) B G in
         let there = stands o r w was new l i within x whole U V s m at f rest passes wanted in
         let workers = workers_change (room_to_litter n) was.workers.items new.workers.items m.worker (lost_rows o r w was new l i x whole U V s m f it_stands runs_it its_file n reserved lost) V.body s.workers in
-        let shut = open_is o w s.known was.names was.workers.items was.block (suc i, l) m x f whole was.blocks was.small n reserved in
+        let shut = open_is o w s.known was.master was.workers.items was.block (suc i, l) m x f whole was.blocks was.small n reserved in
         record {
           after = after;
           rise = tier_rise x.worker;
           made = None;
-          stands = stands_by o r w U new after (lost_known o r w was new l i x whole U V s m f it_stands runs_it its_file n reserved lost) was.block was.area was.names new.workers.items new.hands.items rest.block rest.area rest.names refl refl (record {
+          stands = stands_by o r w U new after (lost_known o r w was new l i x whole U V s m f it_stands runs_it its_file n reserved lost) was.block was.master.journal.limit was.master new.workers.items new.hands.items rest.block (ap (λ k. k.journal.limit) rest.master) rest.master refl refl (record {
             setup = setup_stays (room_to_litter n) was.workers.items new.workers.items m.worker (lost_rows o r w was new l i x whole U V s m f it_stands runs_it its_file n reserved lost) s.setup;
-            named = record { nodes = s.names.nodes; gate = s.names.gate; next_id = s.names.next_id; unlocked = s.names.unlocked; up = s.names.up; unfused = s.names.unfused };
+            named = record { names = s.names.names; gate = s.names.gate; generation = s.names.generation; fuse = s.names.fuse; down = s.names.down; unlocked = s.names.unlocked };
             workers = record { rows = workers.rows; registrations = workers.registrations; first = workers.first };
-            hands = hands_set r w s.known (lost_known o r w was new l i x whole U V s m f it_stands runs_it its_file n reserved lost) was.workers.items new.workers.items was.names.next_id was.names.next_id was.block i l (lost_leaves o r w was new l i x whole U V s m f it_stands runs_it its_file n reserved lost) V.hands was.hands.items new.hands.items s.hands within (Hand.Writing x) (Hand.Writing (closed_writer true x)) (machine.Hand.Writing m) (machine.Hand.Writing k) at hands (broken_fits w s.known (lost_known o r w was new l i x whole U V s m f it_stands runs_it its_file n reserved lost) was.workers.items new.workers.items was.names.next_id was.block (suc i, l) m x f whole refl refl);
-            files = files_owned s.known (Some n) x.worker was.names.next_id was.block was.names.nodes V.body.contents s.files;
+            hands = hands_set r w s.known (lost_known o r w was new l i x whole U V s m f it_stands runs_it its_file n reserved lost) was.workers.items new.workers.items was.master.kept.names.next_id was.master.kept.names.next_id was.block i l (lost_leaves o r w was new l i x whole U V s m f it_stands runs_it its_file n reserved lost) V.hands was.hands.items new.hands.items s.hands within (Hand.Writing x) (Hand.Writing (closed_writer true x)) (machine.Hand.Writing m) (machine.Hand.Writing k) at hands (broken_fits w s.known (lost_known o r w was new l i x whole U V s m f it_stands runs_it its_file n reserved lost) was.workers.items new.workers.items was.master.kept.names.next_id was.block (suc i, l) m x f whole refl refl);
+            files = files_owned s.known (Some n) x.worker was.master.kept.names.next_id was.block was.master.kept.names.nodes V.body.contents s.files;
             objects = (lost_nodes o r w was new l i x whole U V s m f it_stands runs_it its_file n reserved lost);
           });
           rises = Rises.OfTier x.worker (lost_tier o r w was new l i x whole U V s m f it_stands runs_it its_file n reserved lost) (lost_rose o r w was new l i x whole U V s m f it_stands runs_it its_file n reserved lost);

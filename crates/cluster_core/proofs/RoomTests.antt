@@ -24,7 +24,8 @@ use Rattle.file_writer.specs.Parts.{open_block}
 use Rattle.cluster_core.specs.declared.node.Node.{Node}
 use Rattle.cluster_core.specs.declared.hand.Writer.{Writer}
 use Rattle.cluster_core.specs.Nodes.{node_row}
-use Rattle.cluster_core.specs.NamesView.{NamesView}
+use Rattle.master_node.specs.Mastering.{Mastering}
+use Rattle.cluster_core.specs.Names.{stop_test}
 use Rattle.cluster_core.specs.NamesStand.{NamesStand}
 use Rattle.cluster_core.specs.Here.{runs_here, by_node}
 use Rattle.cluster_core.specs.Knowledge.{Knowledge, Holder}
@@ -34,6 +35,7 @@ use Rattle.cluster_core.specs.Writers.{room_test, next_of, lacks_room}
 use Rattle.cluster_core.proofs.NodeChanges.{g_at}
 use Rattle.cluster_core.proofs.RoomChanges.{at_suc}
 use Rattle.cluster_core.proofs.HereIs.{live_is}
+use Rattle.cluster_core.proofs.Named.{nodes_are}
 
 -- ---- files
 
@@ -44,8 +46,8 @@ found_file id ((p, machineNode.Directory) ∷ rows) = found_file id rows
 found_file id ((p, machineNode.IsFile f) ∷ rows) = elim (nat_eq f.id id) as (λ b. is_none (option_and_then (λ (r : NodeRow). file_in r.1) (cond b (Some (p, machineNode.IsFile f)) (find (λ (r : NodeRow). id_is id r.1) rows))) ≡ is_none (cond b (Some (p, machineNode.IsFile f)) (find (λ (r : NodeRow). id_is id r.1) rows))) [ true ↦ refl | false ↦ found_file id rows ]
 
 -- the file is there on both sides
-pub file_gone : (names : NamesView) (A : State) (id : ℕ) → NamesStand names A → is_none (file_of A.names id) ≡ is_none (file_row names.nodes id)
-file_gone names A id s = found_file id A.names.nodes ∙ ap (λ rows. is_none (find (λ (r : NodeRow). id_is id r.1) rows)) s.nodes
+pub file_gone : {D : Type 0} (master : Mastering D) (A : State) (id : ℕ) → NamesStand master A → is_none (file_of A.names id) ≡ is_none (file_row master.kept.names.nodes id)
+file_gone master A id s = found_file id A.names.nodes ∙ ap (λ rows. is_none (find (λ (r : NodeRow). id_is id r.1) rows)) (nodes_are s)
 
 -- ---- the open block
 
@@ -144,17 +146,17 @@ pub all_keep : {S R W : Type 0} (o : objects.Ghosts S R W) (K : Knowledge) (next
 all_keep o K next bs w node s = All-weaker (CopyStands o K next bs w node) (λ c. c.keep ≡ true) (λ c d. d.keep) node.book.rows s.copies
 
 -- the tests, where the worker's write type is MUST_CACHE
-tidy : (names : Option Reply) (blocks ids stands : Bool) (w : ℕ) (b r : Bool) → first (None ∷ names ∷ (past Which.Blocks blocks only_if b) ∷ (past Which.Ids ids only_if (b && true)) ∷ refuse (NoWorker w) (true && not stands) ∷ refuse (NoRoom w) (b && true && r) ∷ [])
-    ≡ first (names ∷ past Which.Blocks (b && blocks) ∷ past Which.Ids (b && ids) ∷ refuse (NoWorker w) (not stands) ∷ refuse (NoRoom w) (b && r) ∷ [])
-tidy names blocks ids stands w true r = refl
-tidy names blocks ids stands w false r = refl
+tidy : (halt names : Option Reply) (blocks ids stands : Bool) (w : ℕ) (b r : Bool) → first (halt ∷ names ∷ (past Which.Blocks blocks only_if b) ∷ (past Which.Ids ids only_if (b && true)) ∷ refuse (NoWorker w) (true && not stands) ∷ refuse (NoRoom w) (b && true && r) ∷ [])
+    ≡ first (halt ∷ names ∷ past Which.Blocks (b && blocks) ∷ past Which.Ids (b && ids) ∷ refuse (NoWorker w) (not stands) ∷ refuse (NoRoom w) (b && r) ∷ [])
+tidy halt names blocks ids stands w true r = refl
+tidy halt names blocks ids stands w false r = refl
 
 -- a number that isn't 0 is behind another
 pub behind : (n : ℕ) → 0 < n → n ≡ suc (pred n)
 behind zero some = absurd (let k : 0 < 0 = some in omega (arith, k))
 behind (suc n) some = refl
 
-module _ {S R W : Type 0} (o : objects.Ghosts S R W) (w : writes.Ghosts W) (U : Setup) (A : State) (names : NamesView) (nodes : List (Node S)) (bs area next : ℕ) (K : Knowledge) (a : Holder) (named : NamesStand names A) (s : WorkersStand nodes A) (u : SetupFits U bs area nodes) (stand : (i : ℕ) (node : Node S) → slice_get nodes i ≡ Some node → NodeStands o K next bs (suc i) node) (small : bs < 2 ^ 32) where
+module _ {D S R W : Type 0} (o : objects.Ghosts S R W) (w : writes.Ghosts W) (U : Setup) (A : State) (master : Mastering D) (nodes : List (Node S)) (bs area next : ℕ) (K : Knowledge) (a : Holder) (named : NamesStand master A) (s : WorkersStand nodes A) (u : SetupFits U bs area nodes) (stand : (i : ℕ) (node : Node S) → slice_get nodes i ≡ Some node → NodeStands o K next bs (suc i) node) (small : bs < 2 ^ 32) where
   keeps_at : (v : ℕ) (x : Option (Node S)) → slice_get nodes v ≡ x → IfSome x (λ node. All (λ (c : Copied). c.keep ≡ true) node.book.rows)
   keeps_at v None there = tt
   keeps_at v (Some node) there = all_keep o K next bs (suc v) node (stand v node there)
@@ -175,7 +177,7 @@ module _ {S R W : Type 0} (o : objects.Ghosts S R W) (w : writes.Ghosts W) (U : 
         let at : x.worker ≡ suc v = behind x.worker f.placed in
         ap₂ (λ n g. is_live A n && nat_eq (worker A n).start g) (f.worker ∙ at) f.start ∙ stands_is o U A nodes s bs area u v x.started ∙ ap (λ n. runs_here nodes n x.started) (sym at)
 
-    pub room_tests_are : room_refusal_of U A m ≡ room_test names.nodes nodes bs x
+    pub room_tests_are : room_refusal_of U A m ≡ room_test master nodes bs x
     room_tests_are =
         let v = pred x.worker in
         let at : x.worker ≡ suc v = behind x.worker f.placed in
@@ -184,6 +186,6 @@ module _ {S R W : Type 0} (o : objects.Ghosts S R W) (w : writes.Ghosts W) (U : 
         let nexts : (worker A m.worker).next ≡ next_of (at_number nodes x.worker) = ap (λ n. (worker A n).next) here ∙ next_is o U A nodes s bs area u v ∙ ap next_of (sym node) in
         let stands : writer_stands A m ≡ runs_here nodes x.worker x.started = ap₂ (λ n g. is_live A n && nat_eq (worker A n).start g) here f.start ∙ stands_is o U A nodes s bs area u v x.started ∙ ap (λ n. runs_here nodes n x.started) (sym at) in
         let room : no_room_for U A m.worker None m.bs ≡ lacks_room x.bytes.bs (at_number nodes x.worker) = ap₂ (λ n b. no_room_for U A n None b) here (f.bs ∙ sym f.blocks) ∙ no_room_by o U A nodes s bs area u v x.bytes.bs (slice_get nodes v) refl (keeps_at v (slice_get nodes v) refl) ∙ ap (lacks_room x.bytes.bs) (sym node) in
-        let gone : is_none (file_of A.names m.file) ≡ is_none (file_row names.nodes x.file) = file_gone names A m.file named ∙ ap (λ n. is_none (file_row names.nodes n)) f.file in
-        (λ j. first (refuse Stopped (not (named.up j)) ∷ refuse NotFound (gone j) ∷ (past Which.Blocks (nat_le 65536 (block_count (len_is j) (f.bs j))) only_if wanted_is j) ∷ (past Which.Ids (nat_le (2 ^ 63) (nexts j)) only_if (wanted_is j && is_cached (f.kind j))) ∷ refuse (NoWorker (f.worker j)) (is_cached (f.kind j) && not (stands j)) ∷ refuse (NoRoom (f.worker j)) (wanted_is j && is_cached (f.kind j) && room j) ∷ []))
-        ∙ tidy (refuse NotFound (is_none (file_row names.nodes x.file))) (nat_le 65536 (block_count x.bytes.len bs)) (nat_le (2 ^ 63) (next_of (at_number nodes x.worker))) (runs_here nodes x.worker x.started) x.worker (wants_room x.bytes) (lacks_room x.bytes.bs (at_number nodes x.worker))
+        let gone : is_none (file_of A.names m.file) ≡ is_none (file_row master.kept.names.nodes x.file) = file_gone master A m.file named ∙ ap (λ n. is_none (file_row master.kept.names.nodes n)) f.file in
+        (λ j. first (refuse Stopped (named.down j) ∷ refuse NotFound (gone j) ∷ (past Which.Blocks (nat_le 65536 (block_count (len_is j) (f.bs j))) only_if wanted_is j) ∷ (past Which.Ids (nat_le (2 ^ 63) (nexts j)) only_if (wanted_is j && is_cached (f.kind j))) ∷ refuse (NoWorker (f.worker j)) (is_cached (f.kind j) && not (stands j)) ∷ refuse (NoRoom (f.worker j)) (wanted_is j && is_cached (f.kind j) && room j) ∷ []))
+        ∙ tidy (stop_test master) (refuse NotFound (is_none (file_row master.kept.names.nodes x.file))) (nat_le 65536 (block_count x.bytes.len bs)) (nat_le (2 ^ 63) (next_of (at_number nodes x.worker))) (runs_here nodes x.worker x.started) x.worker (wants_room x.bytes) (lacks_room x.bytes.bs (at_number nodes x.worker))

@@ -14,7 +14,8 @@ use Rattle.fs_model.specs.BytesOutcomes.{Candidate, at_worker, sources, store_so
 use Rattle.fs_model.specs.BytesEvents.{next_refusal_at, next_refusal_of}
 use Rattle.inode_tree.specs.Rows.{file_row}
 use Rattle.tier_book.specs.Rows.{row_of}
-use Rattle.cluster_core.specs.NamesView.{NamesView}
+use Rattle.master_node.specs.Mastering.{Mastering}
+use Rattle.cluster_core.proofs.Named.{nodes_are}
 use Rattle.cluster_core.specs.NamesStand.{NamesStand}
 use Rattle.cluster_core.specs.Nodes.{node_row, registration_of}
 use Rattle.cluster_core.specs.Knowledge.{Knowledge}
@@ -29,7 +30,7 @@ abbrev pub row_file : Option NodeRow → Option File
 row_file x = option_and_then (λ (r : NodeRow). file_in r.1) x
 
 -- a row that is found by a file's number is a file's
-found_file : (rows : List NodeRow) (id : ℕ) → is_some (row_file (file_row rows id)) ≡ is_some (file_row rows id)
+pub found_file : (rows : List NodeRow) (id : ℕ) → is_some (row_file (file_row rows id)) ≡ is_some (file_row rows id)
 found_file [] id = refl
 found_file ((p, machineNode.Directory) ∷ rows) id = found_file rows id
 found_file ((p, machineNode.IsFile f) ∷ rows) id = elim (nat_eq f.id id) as (λ b. is_some (row_file (cond b (Some (p, machineNode.IsFile f)) (file_row rows id))) ≡ is_some (cond b (Some (p, machineNode.IsFile f)) (file_row rows id))) [
@@ -178,28 +179,31 @@ module _ {S : Type 0} (nodes : List (Node S)) (A : State) (s : WorkersStand node
 
 -- ---- the tests of Next
 
-module _ (names : NamesView) (A : State) (s : NamesStand names A) (id : ℕ) where
+module _ {D : Type 0} (master : Mastering D) (A : State) (s : NamesStand master A) (id : ℕ) where
   -- the file of the state is that of the names
-  pub file_kept : (K : Knowledge) (contents : List Content) (next bs : ℕ) → All (FileFits K contents next bs) names.nodes → IfSome (file_of A.names id) (λ g. g.stored ≡ Stored.No)
-  file_kept K contents next bs all = subst (λ rows. IfSome (row_file (file_row rows id)) (λ g. g.stored ≡ Stored.No)) (sym s.nodes) (found_kept K contents next bs names.nodes id all)
+  pub file_kept : (K : Knowledge) (contents : List Content) (next bs : ℕ) → All (FileFits K contents next bs) master.kept.names.nodes → IfSome (file_of A.names id) (λ g. g.stored ≡ Stored.No)
+  file_kept K contents next bs all = subst (λ rows. IfSome (row_file (file_row rows id)) (λ g. g.stored ≡ Stored.No)) (sym (nodes_are s)) (found_kept K contents next bs master.kept.names.nodes id all)
 
-  node_is : (b : Bool) → is_some (file_row names.nodes id) ≡ b → is_none (file_of A.names id) ≡ not b
-  node_is b there = ap (λ rows. is_none (row_file (file_row rows id))) s.nodes ∙ none_by (row_file (file_row names.nodes id)) b (found_file names.nodes id ∙ there)
+  node_is : (b : Bool) → is_some (file_row master.kept.names.nodes id) ≡ b → is_none (file_of A.names id) ≡ not b
+  node_is b there = ap (λ rows. is_none (row_file (file_row rows id))) (nodes_are s) ∙ none_by (row_file (file_row master.kept.names.nodes id)) b (found_file master.kept.names.nodes id ∙ there)
 
   module _ (bs at len : ℕ) (source : Option Source) where
     -- the tests, one after the other
     abbrev tests : Bool → Bool → Option Reply → Option Reply
-    tests up missing behind = first (refuse Refusal.Stopped (not up) ∷ refuse Refusal.NotFound missing ∷ behind ∷ [])
+    tests down missing behind = first (refuse Refusal.Stopped down ∷ refuse Refusal.NotFound missing ∷ behind ∷ [])
 
     abbrev behind_it : Option Reply
     behind_it = next_refusal_at A id (at / bs) only_if (nat_lt at len && is_none source)
 
-    pub missing_file : is_some (file_row names.nodes id) ≡ false → next_refusal_of A id bs at len source ≡ Some (Reply.Refused Refusal.NotFound)
-    missing_file gone = ap (λ u. tests u (is_none (file_of A.names id)) behind_it) s.up ∙ ap (λ b. tests true b behind_it) (node_is false gone)
+    pub stopped_first : master.journal.failed ≡ true → next_refusal_of A id bs at len source ≡ Some (Reply.Refused Refusal.Stopped)
+    stopped_first down = ap (λ u. tests u (is_none (file_of A.names id)) behind_it) (s.down ∙ down)
+
+    pub missing_file : master.journal.failed ≡ false → is_some (file_row master.kept.names.nodes id) ≡ false → next_refusal_of A id bs at len source ≡ Some (Reply.Refused Refusal.NotFound)
+    missing_file up gone = ap (λ u. tests u (is_none (file_of A.names id)) behind_it) (s.down ∙ up) ∙ ap (λ b. tests false b behind_it) (node_is false gone)
 
     -- a file that is there is refused for the sake of its block alone
-    pub next_refusal_is : is_some (file_row names.nodes id) ≡ true → next_refusal_of A id bs at len source ≡ first (behind_it ∷ [])
-    next_refusal_is there = ap (λ u. tests u (is_none (file_of A.names id)) behind_it) s.up ∙ ap (λ b. tests true b behind_it) (node_is true there)
+    pub next_refusal_is : master.journal.failed ≡ false → is_some (file_row master.kept.names.nodes id) ≡ true → next_refusal_of A id bs at len source ≡ first (behind_it ∷ [])
+    next_refusal_is up there = ap (λ u. tests u (is_none (file_of A.names id)) behind_it) (s.down ∙ up) ∙ ap (λ b. tests false b behind_it) (node_is true there)
 
     -- no source is wanted
     pub unwanted : (nat_lt at len && is_none source) ≡ false → first (behind_it ∷ []) ≡ None

@@ -24,7 +24,7 @@ use Rattle.file_writer.specs.declared.pen.Pen.{Pen}
 use Rattle.file_writer.specs.Writing.{Writing, block_writer, without_writer}
 use Rattle.tier_book.specs.Rows.{fitting}
 use Rattle.cluster_core.specs.Begun.{HasNone}
-use Rattle.cluster_core.specs.Causes.{IsCaused, OnlyTier, TierCounted, UnderRose}
+use Rattle.cluster_core.specs.Causes.{IsCaused, JournalCaused, OnlyFrom, TierCounted, UnderRose}
 use Rattle.cluster_core.specs.Committed.{closed_bytes, closed_writer}
 use Rattle.cluster_core.specs.Goes.{AtLabel, HandRose, HandWaited, SourceRose}
 use Rattle.cluster_core.specs.HandChanges.{AddsHand, EndsHand, KeepsHands}
@@ -226,6 +226,7 @@ module _ {R W : Type 0} (r : reads.Ghosts R) (w : writes.Ghosts W) where
 
     stream_sought : (rows : List NodeRow) (bs : ℕ) (old new : List (Node S)) (x y : Stream R) (gave : Found) → SeeksOf o r rows bs old new x y gave → TiersSteady o old → IsHandSteady r w (Hand.Reading x) → IsHandSteady r w (Hand.Reading y)
     stream_sought rows bs old new x y Found.BadLabel h tiers steady = absurd h
+    stream_sought rows bs old new x y Found.Stopped h tiers steady = same_stream x y h.0 steady
     stream_sought rows bs old new x y Found.NotFound h tiers steady = same_stream x y h.1 steady
     stream_sought rows bs old new x y Found.End h tiers steady = subst (λ q. IfSome q (λ b. r.steady b.stream.reader ≡ true)) (sym h.3) tt
     stream_sought rows bs old new x y (Found.Still v t) h tiers steady = same_stream x y h.3 steady
@@ -326,11 +327,11 @@ module _ {D S R W : Type 0} {d : disks.Ghosts D} (o : objects.Ghosts S R W) (r :
   pub hand_waited_not : (old new : Core D S R W d w) (who v : ℕ) (l : List ℕ) → AtLabel o r w old new who l (HandWaited o r w v) → IsSteady d o r w old → ⊥
   hand_waited_not old new who v l = label_not (HandWaited o r w v) (waited_not o r w v) old new who l
 
-  -- over steady media nothing but a tier's own count is the cause of a fault, and nothing waits
-  pub caused_by_tier : (old new : Core D S R W d w) (who : ℕ) (e : Event) (reply : Reply) → IsSteady d o r w old → IsCaused d o r w old new who e reply → OnlyTier (TierCounted o old new) reply
+  -- over steady media nothing but a tier's own count, or what makes the journal fail, is the cause of a fault, and nothing waits
+  pub caused_by_tier : (old new : Core D S R W d w) (who : ℕ) (e : Event) (reply : Reply) → IsSteady d o r w old → IsCaused d o r w old new who e reply → OnlyFrom (TierCounted o old new) (JournalCaused d old.master new.master e) reply
   caused_by_tier old new who e (Reply.Refused (Refusal.TierFault v)) steady (inl counted) = counted
   caused_by_tier old new who e (Reply.Refused (Refusal.TierFault v)) steady (inr h) = absurd (hand_rose_not old new who v h.0 h.2 steady)
   caused_by_tier old new who e (Reply.Refused (Refusal.UnderFault s)) steady h = absurd (label_not (UnderRose o r w s) (under_not o r w s) old new who h.0 h.2 steady)
-  caused_by_tier old new who e (Reply.Refused Refusal.JournalFault) steady h = absurd h
+  caused_by_tier old new who e (Reply.Refused Refusal.JournalFault) steady h = h
   caused_by_tier old new who e Reply.NotReady steady h = absurd (hand_waited_not old new who h.0 h.1 h.3 steady)
   caused_by_tier old new who e reply steady h = tt

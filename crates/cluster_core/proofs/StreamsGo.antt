@@ -65,22 +65,22 @@ at_set {T} P i l t u old new c p = by_cases (slice_get old i) (slice_get new i) 
 module _ {D S R W : Type 0} {d : disks.Ghosts D} (o : objects.Ghosts S R W) (r : reads.Ghosts R) (w : writes.Ghosts W) (old new : Core D S R W d w) (l : Label) (i : ℕ) (within : i < 64) (rest : KeepsRest old new) (workers : new.workers.items ≡ old.workers.items) (U : Setup) (V : Whole) (s : Stands d o r w U old V) where
   -- the core stands for the same state where no label changes
   pub stays_kept : ChangesAt old.hands.items new.hands.items i KeepsHands → Stands d o r w U new V
-  stays_kept hands = stands_by o r w U new V s.known old.block old.area old.names old.workers.items new.hands.items rest.block rest.area rest.names workers refl (record {
+  stays_kept hands = stands_by o r w U new V s.known old.block old.master.journal.limit old.master old.workers.items new.hands.items rest.block (ap (λ k. k.journal.limit) rest.master) rest.master workers refl (record {
     setup = s.setup;
     named = s.names;
     workers = s.workers;
-    hands = hands_kept r w s.known old.workers.items old.names.next_id old.block i V.hands old.hands.items new.hands.items s.hands within hands;
+    hands = hands_kept r w s.known old.workers.items old.master.kept.names.next_id old.block i V.hands old.hands.items new.hands.items s.hands within hands;
     files = s.files;
     objects = s.objects;
   })
 
   -- and for one with another hand of the label
-  pub stays_set : (t u : Hand R W) (k h : machine.Hand) → hand_at (hands_of V (suc i)) l ≡ Some k → ChangesAt old.hands.items new.hands.items i (SetsHand l t u) → Fits r w s.known old.workers.items old.names.next_id old.block (suc i, l) h u → Stands d o r w U new (put_back V (suc i) V.body (set_hand l h (hands_of V (suc i))))
-  stays_set t u k h at hands fits = stands_by o r w U new (put_back V (suc i) V.body (set_hand l h (hands_of V (suc i)))) s.known old.block old.area old.names old.workers.items new.hands.items rest.block rest.area rest.names workers refl (record {
+  pub stays_set : (t u : Hand R W) (k h : machine.Hand) → hand_at (hands_of V (suc i)) l ≡ Some k → ChangesAt old.hands.items new.hands.items i (SetsHand l t u) → Fits r w s.known old.workers.items old.master.kept.names.next_id old.block (suc i, l) h u → Stands d o r w U new (put_back V (suc i) V.body (set_hand l h (hands_of V (suc i))))
+  stays_set t u k h at hands fits = stands_by o r w U new (put_back V (suc i) V.body (set_hand l h (hands_of V (suc i)))) s.known old.block old.master.journal.limit old.master old.workers.items new.hands.items rest.block (ap (λ k. k.journal.limit) rest.master) rest.master workers refl (record {
     setup = s.setup;
     named = s.names;
     workers = s.workers;
-    hands = hands_set r w s.known s.known old.workers.items old.workers.items old.names.next_id old.names.next_id old.block i l (leaves_all (suc i, l) s.known old.workers.items old.names.next_id) V.hands old.hands.items new.hands.items s.hands within t u k h at hands fits;
+    hands = hands_set r w s.known s.known old.workers.items old.workers.items old.master.kept.names.next_id old.master.kept.names.next_id old.block i l (leaves_all (suc i, l) s.known old.workers.items old.master.kept.names.next_id) V.hands old.hands.items new.hands.items s.hands within t u k h at hands fits;
     files = s.files;
     objects = s.objects;
   })

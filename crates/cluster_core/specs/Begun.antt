@@ -1,14 +1,19 @@
 -- A core as it begins, and the media that it is made of.
-use Rattle.std.specs.Prelude.{ℕ, ◌≡◌, true, List, [], map, length, ◌++◌, IsSomeAnd, None}
+use Rattle.std.specs.Prelude.{ℕ, ◌≡◌, ◌⊎◌, true, List, [], map, length, ◌++◌, IsSomeAnd, None, Ok}
 use Rattle.std.specs.List.{All}
 use Rattle.std.specs.Global.{Vec}
 use Rattle.fs_model.specs.declared.setup.Setup.{Setup}
+use Rattle.fs_model.specs.declared.stop.Stop.{Stop}
 use Rattle.fs_model.specs.State.{Worker}
 use Rattle.fs_model.specs.Words.{update_at}
 use Rattle.fs_model.specs.Lookups.{no_worker}
 use Rattle.outside.specs.Contents.{Contents}
+use Rattle.outside.specs.declared.disk.Disk as disks
 use Rattle.outside.specs.declared.objects.Objects as objects
 use Rattle.outside.specs.declared.media.Media.{Media}
+use Rattle.journal_disk.specs.Areas.{journal_of}
+use Rattle.journal_disk.specs.Opening.{Tell}
+use Rattle.master_node.specs.Recovery.{IsClosed}
 use Rattle.tier_book.specs.Rows.{BookView}
 use Rattle.cluster_core.specs.Nodes.{node_row}
 use Rattle.cluster_core.specs.declared.node.Node.{Node}
@@ -30,6 +35,14 @@ IsEmptyTier o s = IsSomeAnd (o.told s) (λ (m : Contents). (key : List (List ℕ
 -- so it is with each tier of each worker
 abbrev pub TiersEmpty : {D S R W : Type 0} → objects.Ghosts S R W → Media D S → Type 0
 TiersEmpty o m = All (λ v. All (IsEmptyTier o) v.items) m.tiers.items
+
+-- the areas tell, and neither is open
+abbrev pub AreasFresh : {D S : Type 0} → disks.Ghosts D → Media D S → Type 0
+AreasFresh d m = Tell d (m.areas).0 (m.areas).1 × (journal_of (d.history (m.areas).0.disk).now.held (d.history (m.areas).1.disk).now.held ≡ Ok None)
+
+-- no cluster was opened: there was no memory before an area was called, or no master is up over the areas; stores and tiers are as they were
+abbrev pub IsUnopened : {D S : Type 0} → disks.Ghosts D → Setup → Media D S → Media D S → Stop → Type 0
+IsUnopened d U media back why = ((why ≡ Stop.Memory) × (back ≡ media)) ⊎ (IsClosed d U (media.areas).0 (media.areas).1 (back.areas).0 (back.areas).1 why × (back.stores ≡ media.stores) × (back.tiers ≡ media.tiers))
 
 -- no label is there
 pub record HasNone {T : Type 0} (s : LabelsView T) : Type 0 where

@@ -1,5 +1,5 @@
 -- That an event of the core is a step of the file machine.
-use Rattle.std.specs.Prelude.{ℕ, zero, suc, pred, ◌≡◌, false, List, [], ◌∷◌, Option, IsSomeAnd}
+use Rattle.std.specs.Prelude.{ℕ, zero, suc, pred, ◌≡◌, ◌⊎◌, false, List, [], ◌∷◌, Option, IsSomeAnd}
 use Rattle.fs_model.specs.declared.setup.Setup.{Setup}
 use Rattle.fs_model.specs.declared.event.Event.{Event}
 use Rattle.fs_model.specs.declared.reply.Reply.{Reply}
@@ -13,6 +13,7 @@ use Rattle.outside.specs.declared.objects.Objects as objects
 use Rattle.outside.specs.declared.objects.ObjectRead as reads
 use Rattle.outside.specs.declared.objects.ObjectWrite as writes
 use Rattle.file_writer.specs.Parts.{block_faults, is_block_steady}
+use Rattle.journal_disk.specs.Journaling.{area_0, area_1}
 use Rattle.cluster_core.specs.LabelsView.{hand_in}
 use Rattle.cluster_core.specs.Tiers.{At}
 use Rattle.cluster_core.specs.Stands.{Stands}
@@ -34,6 +35,10 @@ one_at (suc n) = 0 ∷ one_at n
 -- the count of a worker's tiers rose by 1
 abbrev pub tier_rise : ℕ → Rise
 tier_rise w = record { stores = []; tiers = one_at (pred w); journal = 0; waits = 0 }
+
+-- an area's own count rose by 1
+abbrev pub journal_rise : Rise
+journal_rise = record { stores = []; tiers = []; journal = 1; waits = 0 }
 
 -- the event polls the label, or puts bytes into it
 abbrev pub Uses : Event → List ℕ → Type 0
@@ -71,12 +76,17 @@ module _ {D S R W : Type 0} {d : disks.Ghosts D} (o : objects.Ghosts S R W) (r :
   AtLabel old new who l P = At old.hands.items new.hands.items (pred who) (λ s t. IsSomeAnd (hand_in s l) (λ h. IsSomeAnd (hand_in t l) (λ k. P h k)))
 
 module _ {D S R W : Type 0} (d : disks.Ghosts D) (o : objects.Ghosts S R W) (r : reads.Ghosts R) (w : writes.Ghosts W) where
-  -- what rose in an event: nothing, or by one the count of a tier, that of the reader or writer of the event's label, or the waits of that reader
+  -- the own count of an area rose
+  abbrev pub AreaRose : Core D S R W d w → Core D S R W d w → Type 0
+  AreaRose old new = Rose (d.faults (area_0 old.master.journal)) (d.faults (area_0 new.master.journal)) ⊎ Rose (d.faults (area_1 old.master.journal)) (d.faults (area_1 new.master.journal))
+
+  -- what rose in an event: nothing, or by one the count of a tier, that of the reader or writer of the event's label, the waits of that reader, or an area's own count
   pub data Rises (old new : Core D S R W d w) (who : ℕ) (e : Event) : Rise → Type 0 where
     Nothing : Rises old new who e no_rise
     OfTier : (v t : ℕ) → TierRose o r w old new v t → Rises old new who e (tier_rise v)
     OfHand : (v : ℕ) (l : List ℕ) → Uses e l → AtLabel o r w old new who l (HandRose o r w v) → Rises old new who e (tier_rise v)
     OfWaits : (v : ℕ) (l : List ℕ) → Uses e l → AtLabel o r w old new who l (HandWaited o r w v) → Rises old new who e wait_rise
+    OfJournal : AreaRose old new → Rises old new who e journal_rise
 
   -- there is a state for which the core stands afterwards, to which the machine goes by this step, and what rose in it are the counts that did
   pub record Goes (U : Setup) (old new : Core D S R W d w) (V : Whole) (who : ℕ) (e : Event) (reply : Reply) : Type 0 where

@@ -1,5 +1,5 @@
 -- How what an actor has under a label fits what the file machine has there.
-use Rattle.std.specs.Prelude.{ℕ, ◌≡◌, ◌≤◌, ◌<◌, ◌+◌, ◌-◌, ◌*◌, ◌/◌, ⊤, true, false, cond, List, length, take, drop, Option, Some, None, IfSome, is_some, option_and_then}
+use Rattle.std.specs.Prelude.{ℕ, ◌≡◌, ◌⊎◌, ◌≤◌, ◌<◌, ◌+◌, ◌-◌, ◌*◌, ◌/◌, ⊤, Bool, true, false, cond, List, length, take, drop, Option, Some, None, IfSome, is_some, option_and_then}
 use Rattle.fs_model.specs.declared.event.ReadType.{ReadType}
 use Rattle.fs_model.specs.declared.event.WriteType.{WriteType}
 use Rattle.fs_model.specs.State as machine
@@ -68,6 +68,10 @@ pub record WritesOn {W : Type 0} (w : writes.Ghosts W) (m : machine.Writer) (x :
   pub wants : x.room ≡ None → wants_room x.bytes ≡ true
   pub alone : x.bytes.object ≡ None
 
+-- the label writes the file; a broken one may write it no more
+abbrev pub Writes : Knowledge → ℕ → Holder → Bool → Type 0
+Writes K id a broken = (K.author id ≡ Some a) ⊎ ((broken ≡ true) × (K.author id ≡ None))
+
 -- a writer of a file that is its own, with its reservation at the worker
 pub record WriterFits {S W : Type 0} (w : writes.Ghosts W) (K : Knowledge) (nodes : List (Node S)) (next size : ℕ) (a : Holder) (m : machine.Writer) (x : Writer W) : Type 0 where
   pub file : m.file ≡ x.file
@@ -84,7 +88,7 @@ pub record WriterFits {S W : Type 0} (w : writes.Ghosts W) (K : Knowledge) (node
   pub reserved : IfSome x.room (λ n. (K.owner x.worker n ≡ Some a) × HasRoomOf nodes x.worker x.started n size)
   pub old : m.file < next
   pub bytes : K.bytes_of m.file ≡ Some m.taken
-  pub author : K.author m.file ≡ Some a
+  pub author : Writes K m.file a x.broken
 
 -- ---- both
 

@@ -7,7 +7,5 @@ use Rattle.cluster_core.specs.declared.cluster.Core.{Core}
 -- all but the workers and what is under labels is as it was
 pub record KeepsRest {D S R W : Type 0} {d : disks.Ghosts D} {w : writes.Ghosts W} (old new : Core D S R W d w) : Type 0 where
   pub block : new.block ≡ old.block
-  pub area : new.area ≡ old.area
-  pub names : new.names ≡ old.names
-  pub areas : new.areas ≡ old.areas
+  pub master : new.master ≡ old.master
   pub stores : new.stores ≡ old.stores

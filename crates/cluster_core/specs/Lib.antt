@@ -1,14 +1,14 @@
 pub mod LabelsView
 pub mod LabelSlots
 pub mod Hands
-pub mod NamesView
 pub mod Media
+pub mod Crashes
 pub mod Causes
 pub mod Steady
 pub mod Names
 pub mod NamesStand
+pub mod Entering
 pub mod Tests
-pub mod Laws
 pub mod Tiers
 pub mod Nodes
 pub mod HandChanges

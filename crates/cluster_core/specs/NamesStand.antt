@@ -1,13 +1,13 @@
--- For which states of the file machine the names stand.
-use Rattle.std.specs.Prelude.{◌≡◌, true, [], None}
+-- For which states of the file machine a master stands.
+use Rattle.std.specs.Prelude.{◌≡◌, not, []}
 use Rattle.fs_model.specs.State.{State}
-use Rattle.cluster_core.specs.NamesView.{NamesView}
+use Rattle.master_node.specs.Mastering.{Mastering, names_of}
 
--- the state has these nodes, gate and next number; nothing is locked, the master is up, and no fuse is set
-pub record NamesStand (names : NamesView) (A : State) : Type 0 where
-  pub nodes : A.names.nodes ≡ names.nodes
-  pub gate : A.master.gate ≡ names.gate
-  pub next_id : A.names.next_id ≡ names.next_id
+-- the state has these names, this gate, generation and fuse, and its master is up where this one is; nothing is locked
+pub record NamesStand {D : Type 0} (m : Mastering D) (A : State) : Type 0 where
+  pub names : A.names ≡ names_of m
+  pub gate : A.master.gate ≡ m.journal.gate
+  pub generation : A.master.generation ≡ m.journal.generation
+  pub fuse : A.master.fuse ≡ m.journal.here.fuse
+  pub down : not A.master.up ≡ m.journal.failed
   pub unlocked : A.names.locks ≡ []
-  pub up : A.master.up ≡ true
-  pub unfused : A.master.fuse ≡ None

@@ -1,5 +1,5 @@
 -- What a search for a source leaves of a stream and of the first worker, by what it gave.
-use Rattle.std.specs.Prelude.{ℕ, ◌≡◌, ◌≤◌, ◌<◌, ◌+◌, ◌-◌, ◌%◌, min, false, true, cond, List, Option, Some, None, IsSomeAnd, slice_get, is_some}
+use Rattle.std.specs.Prelude.{ℕ, ◌≡◌, ◌≤◌, ◌<◌, ◌+◌, ◌-◌, ◌%◌, min, ⊤, Bool, false, true, cond, List, Option, Some, None, IsSomeAnd, slice_get, is_some}
 use Rattle.fs_model.specs.declared.reply.Reply.{Reply}
 use Rattle.fs_model.specs.declared.reply.Refusal.{Refusal}
 use Rattle.fs_model.specs.State.{Copied, NodeRow, Source}
@@ -21,6 +21,7 @@ use Rattle.cluster_core.specs.declared.reading.Found.{Found}
 -- the answer of what a search gave; the first worker is the only one that it looks at
 abbrev pub found_reply : Found → Reply
 found_reply Found.BadLabel = Reply.Refused Refusal.BadLabel
+found_reply Found.Stopped = Reply.Refused Refusal.Stopped
 found_reply Found.NotFound = Reply.Refused Refusal.NotFound
 found_reply Found.End = Reply.End
 found_reply (Found.Still v t) = Reply.FromWorker v t
@@ -28,6 +29,12 @@ found_reply (Found.Opened t) = Reply.FromWorker 1 t
 found_reply (Found.Unavailable b) = Reply.Refused (Refusal.Unavailable b)
 found_reply Found.Fault = Reply.Refused (Refusal.TierFault 1)
 found_reply Found.Memory = Reply.Refused Refusal.Memory
+
+-- a search gives that the master is stopped exactly where it is; what isn't a stream is told before that
+abbrev pub Halts : Bool → Found → Type 0
+Halts stopped Found.BadLabel = ⊤
+Halts stopped Found.Stopped = stopped ≡ true
+Halts stopped gave = stopped ≡ false
 
 -- ---- the first worker
 
@@ -96,6 +103,7 @@ module _ {S R W : Type 0} (o : objects.Ghosts S R W) (r : reads.Ghosts R) where
   -- a search, by what it gave
   abbrev pub SeeksOf : List NodeRow → ℕ → List (Node S) → List (Node S) → Stream R → Stream R → Found → Type 0
   SeeksOf rows bs old new x y Found.BadLabel = ⊥
+  SeeksOf rows bs old new x y Found.Stopped = (y ≡ x) × (new ≡ old)
   SeeksOf rows bs old new x y Found.NotFound = (is_some (file_row rows x.file) ≡ false) × (y ≡ x) × (new ≡ old)
   SeeksOf rows bs old new x y Found.End = (is_some (file_row rows x.file) ≡ true) × (x.len ≤ x.at) × SameFile r x y x.at × (y.source ≡ None) × (new ≡ old)
   SeeksOf rows bs old new x y (Found.Still v t) = (is_some (file_row rows x.file) ≡ true) × (x.at < x.len) × (source_of x.source ≡ Some (Source.AtWorker v t)) × (y ≡ x) × (new ≡ old)

@@ -114,9 +114,9 @@ module _ {S R W : Type 0} (o : objects.Ghosts S R W) where
 -- the core stands for a state whose rows are its own, where files, objects, readers and writers have the same bytes
 pub record Stands {D S R W : Type 0} (d : disks.Ghosts D) (o : objects.Ghosts S R W) (r : reads.Ghosts R) (w : writes.Ghosts W) (U : Setup) (C : Core D S R W d w) (V : Whole) : Type 0 where
   pub known : Knowledge
-  pub setup : SetupFits U C.block C.area C.workers.items
-  pub names : NamesStand C.names V.body
+  pub setup : SetupFits U C.block C.master.journal.limit C.workers.items
+  pub names : NamesStand C.master V.body
   pub workers : WorkersStand C.workers.items V.body
-  pub hands : HandsStand r w known C.workers.items C.names.next_id C.block V.hands C.hands.items
-  pub files : FilesStand known C.names.next_id C.block C.names.nodes V.body.contents
-  pub objects : NodesStand o known C.names.next_id C.block C.workers.items
+  pub hands : HandsStand r w known C.workers.items C.master.kept.names.next_id C.block V.hands C.hands.items
+  pub files : FilesStand known C.master.kept.names.next_id C.block C.master.kept.names.nodes V.body.contents
+  pub objects : NodesStand o known C.master.kept.names.next_id C.block C.workers.items

@@ -6,7 +6,7 @@ use Rattle.fs_model.specs.declared.reply.Refusal.TheVariants.{NotFound, NoWorker
 use Rattle.fs_model.specs.declared.reply.Which.{Which}
 use Rattle.fs_model.specs.Words.{first, block_count}
 use Rattle.fs_model.specs.State.{NodeRow}
-use Rattle.fs_model.specs.Lookups.{at_number}
+use Rattle.fs_model.specs.Lookups.{at_number, file_of}
 use Rattle.fs_model.specs.Tests.{refuse, past}
 use Rattle.inode_tree.specs.Rows.{file_row}
 use Rattle.outside.specs.Keys.{KeyNames}
@@ -20,7 +20,9 @@ use Rattle.file_writer.specs.Writing.{Writing, wants_room}
 use Rattle.cluster_core.specs.LabelsView.{LabelsView, HasRoom, hand_in}
 use Rattle.cluster_core.specs.HandChanges.{EndsHand}
 use Rattle.cluster_core.specs.Goes.{Steps}
-use Rattle.cluster_core.specs.Names.{NamesView, is_short}
+use Rattle.master_state.specs.Fits.{file_passes}
+use Rattle.master_node.specs.Mastering.{Mastering}
+use Rattle.cluster_core.specs.Names.{is_short, stop_test}
 use Rattle.cluster_core.specs.Here.{runs_here}
 use Rattle.cluster_core.specs.Kept.{KeepsRest}
 use Rattle.cluster_core.specs.Nodes.{IsFreed, commit_as, node_row}
@@ -68,19 +70,22 @@ module _ {S : Type 0} where
   lacks_room n (Some node) = is_none (fitting node.book n)
 
   -- why a writer gets no room, if it gets none
-  abbrev pub room_test : {W : Type 0} → List NodeRow → List (Node S) → ℕ → Writer W → Option Reply
-  room_test rows nodes bs x = first (
-      refuse NotFound (is_none (file_row rows x.file))
+  abbrev pub room_test : {D W : Type 0} → Mastering D → List (Node S) → ℕ → Writer W → Option Reply
+  room_test m nodes bs x = first (
+      stop_test m
+      ∷ refuse NotFound (is_none (file_row m.kept.names.nodes x.file))
       ∷ past Which.Blocks (wants_room x.bytes && nat_le 65536 (block_count x.bytes.len bs))
       ∷ past Which.Ids (wants_room x.bytes && nat_le (2 ^ 63) (next_of (at_number nodes x.worker)))
       ∷ refuse (NoWorker x.worker) (not (runs_here nodes x.worker x.started))
       ∷ refuse (NoRoom x.worker) (wants_room x.bytes && lacks_room x.bytes.bs (at_number nodes x.worker))
       ∷ [])
 
--- why a file that is there can't be done, if it can't; the area has so many bytes
-abbrev pub done_test : {S W : Type 0} → ℕ → NamesView → List (Node S) → Writer W → Option Reply
-done_test area names nodes x = first (
-    past Which.Area (is_short names area 30)
+-- why the file of a writer can't be done, if it can't
+abbrev pub finish_test : {D S W : Type 0} → Mastering D → List (Node S) → Writer W → Option Reply
+finish_test m nodes x = first (
+    stop_test m
+    ∷ refuse NotFound (not (file_passes (λ f. not f.done) (file_of m.kept.names x.file)))
+    ∷ past Which.Area (is_short m 30)
     ∷ refuse (NoWorker x.worker) (not (runs_here nodes x.worker x.started))
     ∷ [])
 

@@ -1,13 +1,14 @@
 //! The opening of a cluster, and its end.
 
-ghost use Rattle.std.specs.Prelude.{◌≡◌, ◌+◌, ◌≤◌, ◌<◌, ◌^◌, ◌++◌, ◌∷◌, true, [], map, length, IfOk, IfErr, vec_len, vec_capacity};
+ghost use Rattle.std.specs.Prelude.{◌≡◌, ℕ, List, ◌+◌, ◌≤◌, ◌<◌, ◌^◌, ◌++◌, ◌∷◌, true, [], map, length, IfOk, IfErr, vec_len, vec_capacity};
 ghost use Rattle.std.specs.List.{All, list_all};
 ghost use Rattle.fs_model.specs.State.{Whole};
-ghost use Rattle.fs_model.specs.declared.stop.Stop.{Stop};
 ghost use Rattle.fs_model.specs.Begins.{Begins};
 ghost use Rattle.fs_model.specs.Spelled.{are_tiers, is_setup};
-ghost use Rattle.cluster_core.specs.Begun.{FitBooks, HasNone, MediaFit, Moved, TiersEmpty, first_runs, fresh_book, idle_row};
-ghost use Rattle.cluster_core.specs.Names.{first_names};
+ghost use Rattle.journal_disk.specs.Journaling.{fused_0, fused_1};
+ghost use Rattle.master_node.specs.Mastering.{IsKept};
+ghost use Rattle.master_node.specs.Recovery.{IsOver};
+ghost use Rattle.cluster_core.specs.Begun.{AreasFresh, FitBooks, HasNone, IsUnopened, MediaFit, Moved, TiersEmpty, first_runs, fresh_book, idle_row, tier_counts};
 ghost use Rattle.cluster_core.specs.Nodes.{node_row};
 ghost use Rattle.cluster_core.specs.Stands.{Stands};
 ghost use Rattle.cluster_core.specs.Steady.{IsSteady, MediaSteady};
@@ -18,11 +19,11 @@ mod tests;
 use crate::cluster::Core;
 use crate::hand::Hand;
 use crate::labels::Labels;
-use crate::names::Names;
 use crate::node::Node;
 use fs_model::items::Items;
 use fs_model::setup::Setup;
 use fs_model::stop::Stop;
+use master_node::{Master, MasterBroken};
 use outside::disk::Disk;
 use outside::media::Media;
 use outside::objects::{ObjectWrite, Objects};
@@ -148,7 +149,6 @@ fn run_first<O>(nodes: &mut [Node<O>])
 
 /// What a core is made of besides its media.
 struct Parts<O, R, W: ObjectWrite> {
-    names: Names,
     /// The books of the workers.
     books: Vec<Book>,
     /// What each actor has under its labels.
@@ -163,24 +163,37 @@ fn parts_of<O, R: Drop, W: ObjectWrite>(
     setup: &Setup,
 ) -> Result<Parts<O, R, W>, AllocError>
     requires { is_setup setup.now ≡ true }
-    ensures names { IfOk result (λ parts. parts.names ≡ first_names setup.now) }
     ensures books { IfOk result (λ parts. parts.books.items ≡ map fresh_book setup.now.tiers) }
     ensures actors { IfOk result (λ parts. length parts.hands.items ≡ 64) }
     ensures none { IfOk result (λ parts. All HasNone parts.hands.items) }
     ensures nodes { IfOk result (λ parts. parts.nodes.items ≡ []) }
     ensures places { IfOk result (λ parts. length setup.now.tiers ≤ vec_capacity parts.nodes) }
 {
-    let names = Names::begin(alloc, setup)?;
     let tiers = setup.tiers.as_slice();
     let books = books_of(alloc, tiers)?;
     let hands = no_labels(alloc)?;
     let nodes = Vec::with_capacity(alloc, tiers.len())?;
     Ok(Parts {
-        names,
         books,
         hands,
         nodes,
     })
+}
+
+impl<O, R: Drop, W: ObjectWrite> Parts<O, R, W> {
+    /// Lets the parts go, where no core is made of them.
+    fn let_go(self)
+        requires { self.nodes.items ≡ [] }
+    {
+        let Parts {
+            books,
+            hands,
+            nodes,
+        } = self;
+        nodes.destroy_empty();
+        drop(books);
+        drop(hands);
+    }
 }
 
 /// Puts the tiers of the first worker behind those on the list, which has a place for them.
@@ -207,47 +220,39 @@ fn give_all<O>(nodes: &mut Vec<Node<O>>, shelf: &mut Vec<Vec<O>>)
     }
 }
 
-/// The core of these parts over media that fit them.
+/// The core of these parts, of a master, and over stores and tiers that fit the setup.
 fn core_over<D: Disk, O, R, W: ObjectWrite>(
     alloc: Global,
     setup: &Setup,
     parts: Parts<O, R, W>,
-    media: Media<D, O>,
+    master: Master<D>,
+    stores: Vec<O>,
+    mut tiers: Vec<Vec<O>>,
 ) -> Core<D, O, R, W>
     requires setup { is_setup setup.now ≡ true }
-    requires fit { MediaFit setup.now media }
+    requires fit { tier_counts tiers.items ≡ map (λ (sizes : List ℕ). length sizes) setup.now.tiers }
     requires books { parts.books.items ≡ map fresh_book setup.now.tiers }
     requires actors { length parts.hands.items ≡ 64 }
     requires nodes { parts.nodes.items ≡ [] }
     requires places { length setup.now.tiers ≤ vec_capacity parts.nodes }
     ensures block { result.block ≡ setup.now.block }
-    ensures area { result.area ≡ setup.now.area }
-    ensures names { result.names ≡ parts.names }
+    ensures master { result.master ≡ master }
     ensures hands { result.hands ≡ parts.hands }
-    ensures areas { result.areas ≡ media.areas }
-    ensures stores { result.stores ≡ media.stores }
-    ensures tiers { map (λ n. n.tiers) result.workers.items ≡ media.tiers.items }
+    ensures stores { result.stores ≡ stores }
+    ensures tiers { map (λ n. n.tiers) result.workers.items ≡ tiers.items }
     ensures books { map (λ n. n.book) result.workers.items ≡ map fresh_book setup.now.tiers }
     ensures rows { map node_row result.workers.items ≡ first_runs (map idle_row (map fresh_book setup.now.tiers)) }
 {
     let Parts {
-        names,
         mut books,
         hands,
         mut nodes,
     } = parts;
-    let Media {
-        areas,
-        stores,
-        mut tiers,
-    } = media;
     move_all(alloc, &mut books, &mut tiers, &mut nodes);
     run_first(&mut nodes);
     Core {
         block: setup.block,
-        area: setup.area,
-        names,
-        areas,
+        master,
         workers: nodes,
         stores,
         hands,
@@ -256,10 +261,14 @@ fn core_over<D: Disk, O, R, W: ObjectWrite>(
 }
 
 impl<D: Disk, O: Objects> Core<D, O, O::Reader, O::Writer> {
-    /// Opens a cluster over fresh areas and these media, which are as many as the setup says. Worker 1, where it is
-    /// configured, runs; no other does. No actor has a label, and the names are those over fresh areas.
+    /// Opens a cluster over these media, which are as many as the setup says. Its names are those that the areas keep;
+    /// where neither area is open, they are `/` alone, mounted in store 1, and their first checkpoint is made. Worker 1,
+    /// where it is configured, runs; no other does. No actor has a label.
     ///
-    /// An `Err` is want of memory, and gives the media back as they were.
+    /// An `Err` gives the media back. `Damaged` exactly where the current area is no area's text. `Setup` exactly where
+    /// what an open area keeps mounts no store at `/`, or one that isn't configured, or where the first checkpoint is
+    /// longer than an area may be. `JournalFault` only where the own count of an area rose in this call; `Memory` where
+    /// there was no memory for it; no other comes. Stores and tiers are then as they were.
     pub fn open_cluster(
         alloc: Global,
         setup: &Setup,
@@ -268,30 +277,51 @@ impl<D: Disk, O: Objects> Core<D, O, O::Reader, O::Writer> {
         requires setup { is_setup setup.now ≡ true }
         requires fit { MediaFit setup.now media }
 
-        // Over tiers that tell and hold no object, it stands for each state that a play begins with.
-        ensures stands { IfOk result (λ core. (V : Whole) → Begins setup.now V → TiersEmpty O.Objects media → Stands D.Disk O.Objects O.Reader.ObjectRead O.Writer.ObjectWrite setup.now core V) }
+        // Over fresh areas, and tiers that tell and hold no object, it stands for each state that a play begins with.
+        ensures stands { IfOk result (λ core. (V : Whole) → Begins setup.now V → TiersEmpty O.Objects media → AreasFresh D.Disk media → Stands D.Disk O.Objects O.Reader.ObjectRead O.Writer.ObjectWrite setup.now core V) }
+
+        // Its master was opened over the areas, and at rest each image of them stands for its names.
+        ensures over { IfOk result (λ core. IsOver D.Disk setup.now (media.areas).0 (media.areas).1 core.master) }
+        ensures kept { IfOk result (λ core. IsKept D.Disk core.master) }
 
         // Over steady tiers all is steady.
         ensures steady { IfOk result (λ core. MediaSteady O.Objects media → IsSteady D.Disk O.Objects O.Reader.ObjectRead O.Writer.ObjectWrite core) }
 
         ensures block { IfOk result (λ core. core.block ≡ setup.now.block) }
-        ensures area { IfOk result (λ core. core.area ≡ setup.now.area) }
-        ensures areas { IfOk result (λ core. core.areas ≡ media.areas) }
         ensures stores { IfOk result (λ core. core.stores ≡ media.stores) }
         ensures tiers { IfOk result (λ core. map (λ n. n.tiers) core.workers.items ≡ media.tiers.items) }
 
-        ensures memory { IfErr result (λ back. back.0 ≡ Stop.Memory) }
-        ensures back { IfErr result (λ back. back.1 ≡ media) }
+        ensures closed { IfErr result (λ back. IsUnopened D.Disk setup.now media back.1 back.0) }
     {
-        match parts_of(alloc, setup) {
-            Ok(parts) => Ok(core_over(alloc, setup, parts, media)),
-            Err(_) => Err((Stop::Memory, media)),
+        let Ok(parts) = parts_of(alloc, setup) else {
+            return Err((Stop::Memory, media));
+        };
+        let Media {
+            areas,
+            stores,
+            tiers,
+        } = media;
+        let (a, b) = areas;
+        match Master::recover(alloc, setup, a, b) {
+            Ok(master) => Ok(core_over(alloc, setup, parts, master, stores, tiers)),
+            Err(MasterBroken { why, a, b }) => {
+                parts.let_go();
+                let areas = (a, b);
+                Err((
+                    why,
+                    Media {
+                        areas,
+                        stores,
+                        tiers,
+                    },
+                ))
+            }
         }
     }
 
     /// Ends the cluster, and gives its areas, its stores and the tiers of each worker back, in order. It takes no memory.
     pub fn close(self) -> Media<D, O>
-        ensures areas { result.areas ≡ self.areas }
+        ensures areas { result.areas ≡ (fused_0 self.master.journal, fused_1 self.master.journal) }
         ensures stores { result.stores ≡ self.stores }
         ensures tiers { result.tiers.items ≡ map (λ n. n.tiers) self.workers.items }
     {
@@ -300,7 +330,7 @@ impl<D: Disk, O: Objects> Core<D, O, O::Reader, O::Writer> {
         give_all(&mut nodes, &mut shelf);
         nodes.destroy_empty();
         Media {
-            areas: self.areas,
+            areas: self.master.into_areas(),
             stores: self.stores,
             tiers: shelf,
         }

@@ -54,6 +54,7 @@ impl<D: Disk, O: Objects> Core<D, O, O::Reader, O::Writer> {
         requires { is_actor actor ≡ true }
         ensures steps { Steps D.Disk O.Objects O.Reader.ObjectRead O.Writer.ObjectWrite self.old self.new actor (Event.Close label.now) result }
         ensures media { MediaStays D.Disk O.Objects self.old self.new }
+        ensures kept { self.new.master ≡ self.old.master }
         ensures cause { IsCaused D.Disk O.Objects O.Reader.ObjectRead O.Writer.ObjectWrite self.old self.new actor (Event.Close label.now) result }
         ensures steady { IsSteady D.Disk O.Objects O.Reader.ObjectRead O.Writer.ObjectWrite self.old → IsSteady D.Disk O.Objects O.Reader.ObjectRead O.Writer.ObjectWrite self.new }
     {

@@ -89,9 +89,9 @@ fn commit_at<O: Objects>(
 impl<D: Disk, O: Objects> Core<D, O, O::Reader, O::Writer> {
     /// What the open block of a writer is committed as.
     fn finished(&self, writer: &Writer<O::Writer>) -> Finished
-        ensures { result ≡ finished_of self.now.names.nodes self.now.block writer.now }
+        ensures { result ≡ finished_of self.now.master.kept.names.nodes self.now.block writer.now }
     {
-        let (keep, pin) = flags_of(self.names.file(writer.file));
+        let (keep, pin) = flags_of(self.master.names().file(writer.file));
         Finished {
             file: writer.file,
             block: open_number(&writer.bytes, self.block),
@@ -151,8 +151,8 @@ impl<D: Disk, O: Objects> Core<D, O, O::Reader, O::Writer> {
         ensures workers { length self.new.workers.items ≡ length self.old.workers.items }
         ensures none { writer.old.room ≡ None → IsOk result × (self.new.workers ≡ self.old.workers) × (writer.new ≡ writer.old) }
         ensures wants { OnOk result (wants_room writer.new.bytes ≡ wants_room writer.old.bytes) }
-        ensures done { OnOk result (IfSome writer.old.room (λ n. IfSome (block_writer writer.old.bytes) (λ pen. ChangesAt self.old.workers.items self.new.workers.items (pred writer.old.worker) (Commits O.Objects O.Writer.ObjectWrite n (key_at self.old.workers.items writer.old.worker n) pen (finished_of self.old.names.nodes self.old.block writer.old))))) }
-        ensures lost { result ≡ Err Fail.Failed → IfSome writer.old.room (λ n. IfSome (block_writer writer.old.bytes) (λ pen. ChangesAt self.old.workers.items self.new.workers.items (pred writer.old.worker) (Loses O.Objects O.Writer.ObjectWrite n (key_at self.old.workers.items writer.old.worker n) pen (finished_of self.old.names.nodes self.old.block writer.old)))) }
+        ensures done { OnOk result (IfSome writer.old.room (λ n. IfSome (block_writer writer.old.bytes) (λ pen. ChangesAt self.old.workers.items self.new.workers.items (pred writer.old.worker) (Commits O.Objects O.Writer.ObjectWrite n (key_at self.old.workers.items writer.old.worker n) pen (finished_of self.old.master.kept.names.nodes self.old.block writer.old))))) }
+        ensures lost { result ≡ Err Fail.Failed → IfSome writer.old.room (λ n. IfSome (block_writer writer.old.bytes) (λ pen. ChangesAt self.old.workers.items self.new.workers.items (pred writer.old.worker) (Loses O.Objects O.Writer.ObjectWrite n (key_at self.old.workers.items writer.old.worker n) pen (finished_of self.old.master.kept.names.nodes self.old.block writer.old)))) }
         ensures closed { OnOk result (writer.new ≡ closed_writer false writer.old) }
         ensures broken { result ≡ Err Fail.Failed → writer.new ≡ closed_writer true writer.old }
         ensures memory { result ≡ Err Fail.Memory → (self.new.workers ≡ self.old.workers) × (writer.new ≡ writer.old) }

@@ -1,11 +1,19 @@
 //! A new file, with its writer under a label.
 
-ghost use Rattle.std.specs.Prelude.{◌≡◌, ◌<◌, true, pred, None, OnOk, OnErr, option_map};
+ghost use Rattle.std.specs.Prelude.{◌≡◌, ◌+◌, IsErrOf, length, ◌<◌, true, false, pred, None, IfOk, OnOk, OnErr, option_map};
 ghost use Rattle.fs_model.specs.declared.event.Event.{Event};
 ghost use Rattle.fs_model.specs.declared.event.WriteType.{WriteType};
 ghost use Rattle.fs_model.specs.declared.reply.Reply.{Reply};
 ghost use Rattle.fs_model.specs.Spelled.{is_actor};
+ghost use Rattle.journal_entry.specs.declared.entry.Entry.{Entry};
+ghost use Rattle.journal_disk.specs.declared.fault.AppendFault.TheVariants.{Failed, Full, Memory};
+ghost use Rattle.journal_entry.specs.EntryText.{entry_text};
+ghost use Rattle.master_state.specs.Effect.{counts_in};
+ghost use Rattle.master_state.specs.Places.{is_numbered_out, place_test};
+ghost use Rattle.master_node.specs.Mastering.{IsUp, names_of, entered, standing_of};
 ghost use Rattle.cluster_core.specs.Causes.{IsCaused};
+ghost use Rattle.cluster_core.specs.Crashes.{Crashes};
+ghost use Rattle.cluster_core.specs.Entering.{Entered, HasStopped, Stays};
 ghost use Rattle.cluster_core.specs.Creating.{new_writer};
 ghost use Rattle.cluster_core.specs.Openings.{here};
 ghost use Rattle.cluster_core.specs.Goes.{Steps};
@@ -13,21 +21,23 @@ ghost use Rattle.cluster_core.specs.HandChanges.{AddsHand, KeepsHands};
 ghost use Rattle.cluster_core.specs.Here.{started_here};
 ghost use Rattle.cluster_core.specs.Media.{MediaStays};
 ghost use Rattle.cluster_core.specs.Steady.{IsSteady};
-ghost use Rattle.cluster_core.specs.Names.{with_file};
 ghost use Rattle.cluster_core.specs.Tests.{create_test};
 ghost use Rattle.cluster_core.specs.Tiers.{ChangesAt};
 
 use crate::cluster::Core;
 use crate::hand::{Hand, Writer};
-use crate::names::CREATE_ENTRY;
+use crate::journaling::{enter, fault_reply};
 use file_writer::writer::FileWriter;
 use fs_model::label::Label;
 use fs_model::numbers::{Actor, FileId, WorkerNo};
 use fs_model::path::Path;
 use fs_model::reply::{Refusal, Reply, Which};
+use journal_disk::AppendFault;
 use outside::disk::Disk;
 use outside::objects::{ObjectWrite, Objects};
-use std::alloc::{AllocError, Global};
+
+/// The length of the journal entry of a new file, without its path.
+const CREATE_ENTRY: u64 = 15;
 
 /// The most labels of one actor.
 const LABELS: usize = 64;
@@ -67,31 +77,31 @@ impl<D: Disk, O: Objects> Core<D, O, O::Reader, O::Writer> {
         worker: WorkerNo,
     ) -> Option<Refusal>
         requires { is_actor actor ≡ true }
-        ensures { option_map Reply.Refused result ≡ create_test self.now.area self.now.names (here self.now.workers.items self.now.hands.items actor label.now worker) path.now }
+        ensures { option_map Reply.Refused result ≡ create_test self.now.master (here self.now.workers.items self.now.hands.items actor label.now worker) path.now }
     {
         if self.has_label(actor, label) {
             return Some(Refusal::BadLabel);
         }
-        let place = self.names.place_refusal(path);
+        if self.master.is_stopped() {
+            return Some(Refusal::Stopped);
+        }
+        let place = self.master.names().place_refusal(path);
         if place.is_some() {
             return place;
         }
         if worker.0 != 0 && !self.is_configured(worker) {
             return Some(Refusal::NoWorker(worker));
         }
-        if self.names.is_full() {
+        if self.master.names().is_full() {
             return Some(Refusal::Limit(Which::Nodes));
         }
         if self.label_count(actor) >= LABELS {
             return Some(Refusal::Limit(Which::Labels));
         }
-        if self.names.is_numbered_out() {
+        if self.master.names().is_numbered_out() {
             return Some(Refusal::Limit(Which::Ids));
         }
-        if self
-            .names
-            .is_short(self.area, CREATE_ENTRY + path.text_len())
-        {
+        if self.master.lacks_room(CREATE_ENTRY + path.text_len()) {
             return Some(Refusal::Limit(Which::Area));
         }
         if worker.0 != 0 && !self.is_live(worker) {
@@ -100,31 +110,53 @@ impl<D: Disk, O: Objects> Core<D, O, O::Reader, O::Writer> {
         None
     }
 
-    /// Makes the file, and its writer under the label, where nothing refuses it. An `Err` is want of memory: then the
-    /// names and what is under each label are as they were.
-    fn make_file(
+    /// Journals a file that nothing refuses, and adds it; answers its number.
+    fn make_file(&mut self, path: &Path) -> Result<FileId, AppendFault>
+        requires stopped { IsUp self.old.master }
+        requires place { place_test (names_of self.old.master) path.now ≡ None }
+        requires number { is_numbered_out (names_of self.old.master) ≡ false }
+        ensures done { OnOk result (Entered D.Disk (Entry.Create (names_of self.old.master).next_id path.now) self.old.master self.new.master) }
+        ensures stopped { IsErrOf result Failed → HasStopped D.Disk 4 (entered (Entry.Create (names_of self.old.master).next_id path.now) (standing_of self.old.master)) self.old.master self.new.master }
+        ensures short { IsErrOf result Memory → Stays D.Disk self.old.master self.new.master }
+        ensures full { IsErrOf result Full → self.old.master.journal.limit < self.old.master.journal.gate + 2 + length (entry_text (Entry.Create (names_of self.old.master).next_id path.now)) }
+        ensures counts { OnOk result (counts_in (Entry.Create (names_of self.old.master).next_id path.now) (names_of self.old.master) ≡ true) }
+        ensures id { IfOk result (λ id. id ≡ (names_of self.old.master).next_id) }
+        ensures block { self.new.block ≡ self.old.block }
+        ensures workers { self.new.workers ≡ self.old.workers }
+        ensures hands { self.new.hands ≡ self.old.hands }
+        ensures stores { self.new.stores ≡ self.old.stores }
+    {
+        let file = self.master.names().next_numbers().0;
+        let entry = self.master.names().create(path)?;
+        enter(&mut self.master, &entry)?;
+        Ok(file)
+    }
+
+    /// Makes the file, and its writer under the label, where nothing refuses it. After an `Err` what is under each
+    /// label is as it was.
+    fn make_writer(
         &mut self,
-        alloc: Global,
         actor: Actor,
         label: &Label,
         path: &Path,
         worker: WorkerNo,
-    ) -> Result<(), AllocError>
+    ) -> Result<(), AppendFault>
         requires actor { is_actor actor ≡ true }
-        requires passes { create_test self.old.area self.old.names (here self.old.workers.items self.old.hands.items actor label.now worker) path.now ≡ None }
+        requires passes { create_test self.old.master (here self.old.workers.items self.old.hands.items actor label.now worker) path.now ≡ None }
+        ensures done { OnOk result (Entered D.Disk (Entry.Create (names_of self.old.master).next_id path.now) self.old.master self.new.master) }
+        ensures stopped { IsErrOf result Failed → HasStopped D.Disk 4 (entered (Entry.Create (names_of self.old.master).next_id path.now) (standing_of self.old.master)) self.old.master self.new.master }
+        ensures short { IsErrOf result Memory → Stays D.Disk self.old.master self.new.master }
+        ensures full { IsErrOf result Full → self.old.master.journal.limit < self.old.master.journal.gate + 2 + length (entry_text (Entry.Create (names_of self.old.master).next_id path.now)) }
+        ensures counts { OnOk result (counts_in (Entry.Create (names_of self.old.master).next_id path.now) (names_of self.old.master) ≡ true) }
         ensures block { self.new.block ≡ self.old.block }
-        ensures area { self.new.area ≡ self.old.area }
         ensures workers { self.new.workers ≡ self.old.workers }
-        ensures areas { self.new.areas ≡ self.old.areas }
         ensures stores { self.new.stores ≡ self.old.stores }
-        ensures names { OnOk result (self.new.names ≡ with_file path.now self.old.names) }
-        ensures hands { OnOk result (ChangesAt self.old.hands.items self.new.hands.items (pred actor) (AddsHand label.now (Hand.Writing (new_writer self.old.names.next_id worker (started_here self.old.workers.items worker) self.old.block)))) }
-        ensures same_names { OnErr result (self.new.names ≡ self.old.names) }
+        ensures hands { OnOk result (ChangesAt self.old.hands.items self.new.hands.items (pred actor) (AddsHand label.now (Hand.Writing (new_writer (names_of self.old.master).next_id worker (started_here self.old.workers.items worker) self.old.block)))) }
         ensures same_hands { OnErr result (ChangesAt self.old.hands.items self.new.hands.items (pred actor) KeepsHands) }
     {
         self.reserve_hand(actor)?;
         let label = label.clone()?;
-        let file = self.names.add_file(alloc, path)?;
+        let file = self.make_file(path)?;
         let started = self.started_of(worker);
         let writer = fresh(self.block, file, worker, started);
         self.add_hand(actor, label, Hand::Writing(writer));
@@ -134,7 +166,6 @@ impl<D: Disk, O: Objects> Core<D, O, O::Reader, O::Writer> {
     /// `create`: makes a file, with its writer under a label.
     pub(crate) fn create(
         &mut self,
-        alloc: Global,
         actor: Actor,
         label: &Label,
         path: &Path,
@@ -145,14 +176,15 @@ impl<D: Disk, O: Objects> Core<D, O, O::Reader, O::Writer> {
         ensures steps { Steps D.Disk O.Objects O.Reader.ObjectRead O.Writer.ObjectWrite self.old self.new actor (Event.Create label.now path.now WriteType.MustCache worker) result }
         ensures media { MediaStays D.Disk O.Objects self.old self.new }
         ensures cause { IsCaused D.Disk O.Objects O.Reader.ObjectRead O.Writer.ObjectWrite self.old self.new actor (Event.Create label.now path.now WriteType.MustCache worker) result }
+        ensures crash { Crashes D.Disk self.old self.new actor (Event.Create label.now path.now WriteType.MustCache worker) result }
         ensures steady { IsSteady D.Disk O.Objects O.Reader.ObjectRead O.Writer.ObjectWrite self.old → IsSteady D.Disk O.Objects O.Reader.ObjectRead O.Writer.ObjectWrite self.new }
     {
         if let Some(refusal) = self.create_refusal(actor, label, path, worker) {
             return Reply::Refused(refusal);
         }
-        match self.make_file(alloc, actor, label, path, worker) {
+        match self.make_writer(actor, label, path, worker) {
             Ok(()) => Reply::Done,
-            Err(_) => Reply::Refused(Refusal::Memory),
+            Err(fault) => fault_reply(fault),
         }
     }
 }

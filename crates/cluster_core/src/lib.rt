@@ -1,5 +1,5 @@
-//! The core of the cluster: the names that its master keeps, what each actor has under its labels, workers with their
-//! blocks in tiers, and the events over them.
+//! The core of the cluster: its master with the names and their journal, what each actor has under its labels, workers
+//! with their blocks in tiers, and the events over them.
 #![tactic(auto)]
 
 mod at_workers;
@@ -11,9 +11,8 @@ mod committing;
 mod creating;
 mod finishing;
 pub mod hand;
+mod journaling;
 pub mod labels;
-pub mod laws;
-pub mod names;
 mod naming;
 pub mod node;
 mod opening;

@@ -20,12 +20,12 @@ ghost use Rattle.cluster_core.specs.Tiers.{ChangesAt};
 
 use crate::cluster::Core;
 use crate::hand::{Hand, Stream};
-use crate::names::Names;
 use fs_model::label::Label;
 use fs_model::numbers::{Actor, FileId, WorkerNo};
 use fs_model::path::Path;
 use fs_model::reply::{Refusal, Reply, Which};
 use inode_tree::row::{Row, Walk};
+use master_node::Master;
 use outside::disk::Disk;
 use outside::objects::Objects;
 use std::alloc::AllocError;
@@ -37,11 +37,11 @@ const LABELS: usize = 64;
 const BLOCKS: u64 = 65_536;
 
 /// The row of the file at the path, where one is there and is done.
-fn done_file(names: &Names, path: &Path) -> Result<Row, Refusal>
-    ensures ok { IfOk result (λ row. (done_test names.now path.now ≡ None) × (file_there names.now path.now ≡ Some (file_in_row row)) × (row.done ≡ true)) }
-    ensures err { IfErr result (λ why. done_test names.now path.now ≡ Some (Reply.Refused why)) }
+fn done_file<D: Disk>(master: &Master<D>, path: &Path) -> Result<Row, Refusal>
+    ensures ok { IfOk result (λ row. (done_test master.now path.now ≡ None) × (file_there master.now path.now ≡ Some (file_in_row row)) × (row.done ≡ true)) }
+    ensures err { IfErr result (λ why. done_test master.now path.now ≡ Some (Reply.Refused why)) }
 {
-    match names.walk(path) {
+    match master.names().walk(path) {
         Walk::Absent => Err(Refusal::NotFound),
         Walk::Blocked => Err(Refusal::NotDirectory),
         Walk::Found(row) => {
@@ -74,14 +74,17 @@ impl<D: Disk, O: Objects> Core<D, O, O::Reader, O::Writer> {
         worker: WorkerNo,
     ) -> Result<Row, Refusal>
         requires { is_actor actor ≡ true }
-        ensures ok { IfOk result (λ row. (open_test self.now.block self.now.names (here self.now.workers.items self.now.hands.items actor label.now worker) path.now ≡ None) × (file_there self.now.names path.now ≡ Some (file_in_row row)) × (row.done ≡ true)) }
+        ensures ok { IfOk result (λ row. (open_test self.now.block self.now.master (here self.now.workers.items self.now.hands.items actor label.now worker) path.now ≡ None) × (file_there self.now.master path.now ≡ Some (file_in_row row)) × (row.done ≡ true)) }
         ensures free { OnOk result (has_here self.now.hands.items actor label.now ≡ false) }
-        ensures err { IfErr result (λ why. open_test self.now.block self.now.names (here self.now.workers.items self.now.hands.items actor label.now worker) path.now ≡ Some (Reply.Refused why)) }
+        ensures err { IfErr result (λ why. open_test self.now.block self.now.master (here self.now.workers.items self.now.hands.items actor label.now worker) path.now ≡ Some (Reply.Refused why)) }
     {
         if self.has_label(actor, label) {
             return Err(Refusal::BadLabel);
         }
-        let row = done_file(&self.names, path)?;
+        if self.master.is_stopped() {
+            return Err(Refusal::Stopped);
+        }
+        let row = done_file(&self.master, path)?;
         if worker.0 != 0 && !self.is_configured(worker) {
             return Err(Refusal::NoWorker(worker));
         }
@@ -120,6 +123,7 @@ impl<D: Disk, O: Objects> Core<D, O, O::Reader, O::Writer> {
         requires { is_actor actor ≡ true }
         ensures steps { Steps D.Disk O.Objects O.Reader.ObjectRead O.Writer.ObjectWrite self.old self.new actor (Event.OpenFile label.now path.now ReadType.NoCache worker) result }
         ensures media { MediaStays D.Disk O.Objects self.old self.new }
+        ensures kept { self.new.master ≡ self.old.master }
         ensures cause { IsCaused D.Disk O.Objects O.Reader.ObjectRead O.Writer.ObjectWrite self.old self.new actor (Event.OpenFile label.now path.now ReadType.NoCache worker) result }
         ensures steady { IsSteady D.Disk O.Objects O.Reader.ObjectRead O.Writer.ObjectWrite self.old → IsSteady D.Disk O.Objects O.Reader.ObjectRead O.Writer.ObjectWrite self.new }
     {

@@ -180,6 +180,7 @@ impl<D: Disk, O: Objects> Core<D, O, O::Reader, O::Writer> {
         requires max { is_piece_len max ≡ true }
         ensures steps { Steps D.Disk O.Objects O.Reader.ObjectRead O.Writer.ObjectWrite self.old self.new actor (Event.Poll label.now max) result }
         ensures media { MediaStays D.Disk O.Objects self.old self.new }
+        ensures kept { self.new.master ≡ self.old.master }
         ensures cause { IsCaused D.Disk O.Objects O.Reader.ObjectRead O.Writer.ObjectWrite self.old self.new actor (Event.Poll label.now max) result }
         ensures steady { IsSteady D.Disk O.Objects O.Reader.ObjectRead O.Writer.ObjectWrite self.old → IsSteady D.Disk O.Objects O.Reader.ObjectRead O.Writer.ObjectWrite self.new }
     {

@@ -1,6 +1,6 @@
 //! The source that a stream reads the block of its position from.
 
-ghost use Rattle.std.specs.Prelude.{◌≡◌, ◌<◌, ◌-◌, ◌%◌, true, Err, None, Some, min, IfNone, IfOk, IfSome, OnErr, is_some};
+ghost use Rattle.std.specs.Prelude.{◌≡◌, ◌<◌, ◌-◌, ◌%◌, true, false, Err, None, Some, min, IfNone, IfOk, IfSome, OnErr, is_some};
 ghost use Rattle.fs_model.specs.State.{Source};
 ghost use Rattle.fs_model.specs.declared.event.Event.{Event};
 ghost use Rattle.fs_model.specs.Spelled.{is_actor};
@@ -12,7 +12,7 @@ ghost use Rattle.cluster_core.specs.Kept.{KeepsRest};
 ghost use Rattle.cluster_core.specs.Media.{MediaStays};
 ghost use Rattle.cluster_core.specs.Steady.{IsSteady};
 ghost use Rattle.cluster_core.specs.Polls.{block_number};
-ghost use Rattle.cluster_core.specs.Seeks.{FailsRow, HandSeeks, OpensRow, SeeksOf, TriesRow, first_copy, found_reply, left_of, place_in, wanted};
+ghost use Rattle.cluster_core.specs.Seeks.{FailsRow, Halts, HandSeeks, OpensRow, SeeksOf, TriesRow, first_copy, found_reply, left_of, place_in, wanted};
 ghost use Rattle.cluster_core.specs.Sources.{MaySource};
 ghost use Rattle.cluster_core.specs.Tiers.{ChangesAt};
 
@@ -37,6 +37,8 @@ const FIRST: WorkerNo = WorkerNo(1);
 pub(crate) enum Found {
     /// There is no stream under the label.
     BadLabel,
+    /// The master is stopped.
+    Stopped,
     /// There is no such file any more.
     NotFound,
     /// All bytes of the file have been given.
@@ -59,6 +61,7 @@ fn found_reply(found: Found) -> Reply
 {
     match found {
         Found::BadLabel => Reply::Refused(Refusal::BadLabel),
+        Found::Stopped => Reply::Refused(Refusal::Stopped),
         Found::NotFound => Reply::Refused(Refusal::NotFound),
         Found::End => Reply::End,
         Found::Still(worker, tier) => Reply::FromWorker(worker, tier),
@@ -123,10 +126,11 @@ impl<D: Disk, O: Objects> Core<D, O, O::Reader, O::Writer> {
     fn seek_source(&mut self, alloc: Global, stream: &mut Stream<O::Reader>) -> Found
         requires inside { stream.old.at < stream.old.len }
         requires none { source_of stream.old.source ≡ None }
-        requires there { is_some (file_row self.old.names.nodes stream.old.file) ≡ true }
+        requires there { is_some (file_row self.old.master.kept.names.nodes stream.old.file) ≡ true }
         ensures rest { KeepsRest self.old self.new }
         ensures hands { self.new.hands ≡ self.old.hands }
-        ensures found { SeeksOf O.Objects O.Reader.ObjectRead self.old.names.nodes self.old.block self.old.workers.items self.new.workers.items stream.old stream.new result }
+        ensures found { SeeksOf O.Objects O.Reader.ObjectRead self.old.master.kept.names.nodes self.old.block self.old.workers.items self.new.workers.items stream.old stream.new result }
+        ensures halts { Halts false result }
     {
         let block = block_at(stream.at, self.block);
         let place = stream.at % self.block as u64;
@@ -152,9 +156,13 @@ impl<D: Disk, O: Objects> Core<D, O, O::Reader, O::Writer> {
     fn seek(&mut self, alloc: Global, stream: &mut Stream<O::Reader>) -> Found
         ensures rest { KeepsRest self.old self.new }
         ensures hands { self.new.hands ≡ self.old.hands }
-        ensures found { SeeksOf O.Objects O.Reader.ObjectRead self.old.names.nodes self.old.block self.old.workers.items self.new.workers.items stream.old stream.new result }
+        ensures found { SeeksOf O.Objects O.Reader.ObjectRead self.old.master.kept.names.nodes self.old.block self.old.workers.items self.new.workers.items stream.old stream.new result }
+        ensures halts { Halts self.old.master.journal.failed result }
     {
-        if !self.names.has_file(stream.file) {
+        if self.master.is_stopped() {
+            return Found::Stopped;
+        }
+        if self.master.names().file(stream.file).is_none() {
             return Found::NotFound;
         }
         if stream.at >= stream.len {
@@ -171,7 +179,8 @@ impl<D: Disk, O: Objects> Core<D, O, O::Reader, O::Writer> {
     fn seek_hand(&mut self, alloc: Global, hand: &mut Hand<O::Reader, O::Writer>) -> Found
         ensures rest { KeepsRest self.old self.new }
         ensures hands { self.new.hands ≡ self.old.hands }
-        ensures found { HandSeeks O.Objects O.Reader.ObjectRead self.old.names.nodes self.old.block self.old.workers.items self.new.workers.items hand.old hand.new result }
+        ensures found { HandSeeks O.Objects O.Reader.ObjectRead self.old.master.kept.names.nodes self.old.block self.old.workers.items self.new.workers.items hand.old hand.new result }
+        ensures halts { Halts self.old.master.journal.failed result }
     {
         match hand {
             Hand::Reading(stream) => self.seek(alloc, stream),
@@ -184,6 +193,7 @@ impl<D: Disk, O: Objects> Core<D, O, O::Reader, O::Writer> {
         requires { is_actor actor ≡ true }
         ensures steps { Steps D.Disk O.Objects O.Reader.ObjectRead O.Writer.ObjectWrite self.old self.new actor (Event.Next label.now) result }
         ensures media { MediaStays D.Disk O.Objects self.old self.new }
+        ensures kept { self.new.master ≡ self.old.master }
         ensures cause { IsCaused D.Disk O.Objects O.Reader.ObjectRead O.Writer.ObjectWrite self.old self.new actor (Event.Next label.now) result }
         ensures steady { IsSteady D.Disk O.Objects O.Reader.ObjectRead O.Writer.ObjectWrite self.old → IsSteady D.Disk O.Objects O.Reader.ObjectRead O.Writer.ObjectWrite self.new }
     {

@@ -83,11 +83,14 @@ impl<D: Disk, O: Objects> Core<D, O, O::Reader, O::Writer> {
 
     /// Why a writer gets no room, if it gets none.
     fn room_refusal(&self, writer: &Writer<O::Writer>) -> Option<Refusal>
-        ensures refused { option_map Reply.Refused result ≡ room_test self.now.names.nodes self.now.workers.items self.now.block writer.now }
+        ensures refused { option_map Reply.Refused result ≡ room_test self.now.master self.now.workers.items self.now.block writer.now }
         ensures some { IfNone result (0 < writer.now.worker) }
         ensures there { IfNone result (pred writer.now.worker < length self.now.workers.items) }
     {
-        if self.names.file(writer.file).is_none() {
+        if self.master.is_stopped() {
+            return Some(Refusal::Stopped);
+        }
+        if self.master.names().file(writer.file).is_none() {
             return Some(Refusal::NotFound);
         }
         if self.is_past_blocks(writer) {
@@ -142,6 +145,7 @@ impl<D: Disk, O: Objects> Core<D, O, O::Reader, O::Writer> {
         requires back { MayPut self.old.hands.items actor label }
         ensures steps { StepsFrom D.Disk O.Objects O.Reader.ObjectRead O.Writer.ObjectWrite self.old self.new actor label writer (Event.Room label) result }
         ensures media { MediaStays D.Disk O.Objects self.old self.new }
+        ensures kept { self.new.master ≡ self.old.master }
         ensures cause { OnlyTier (TierCounted O.Objects self.old self.new) result }
         ensures steady { IsSteady D.Disk O.Objects O.Reader.ObjectRead O.Writer.ObjectWrite self.old → IsHandSteady O.Reader.ObjectRead O.Writer.ObjectWrite (Hand.Writing writer) → IsSteady D.Disk O.Objects O.Reader.ObjectRead O.Writer.ObjectWrite self.new }
     {
@@ -184,6 +188,7 @@ impl<D: Disk, O: Objects> Core<D, O, O::Reader, O::Writer> {
         requires { is_actor actor ≡ true }
         ensures steps { Steps D.Disk O.Objects O.Reader.ObjectRead O.Writer.ObjectWrite self.old self.new actor (Event.Room label.now) result }
         ensures media { MediaStays D.Disk O.Objects self.old self.new }
+        ensures kept { self.new.master ≡ self.old.master }
         ensures cause { IsCaused D.Disk O.Objects O.Reader.ObjectRead O.Writer.ObjectWrite self.old self.new actor (Event.Room label.now) result }
         ensures steady { IsSteady D.Disk O.Objects O.Reader.ObjectRead O.Writer.ObjectWrite self.old → IsSteady D.Disk O.Objects O.Reader.ObjectRead O.Writer.ObjectWrite self.new }
     {

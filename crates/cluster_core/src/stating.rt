@@ -78,7 +78,10 @@ impl<D: Disk, O: Objects> Core<D, O, O::Reader, O::Writer> {
         ensures steps { Steps D.Disk O.Objects O.Reader.ObjectRead O.Writer.ObjectWrite self.now self.now actor (Event.Stat path.now) result }
         ensures cause { IsCaused D.Disk O.Objects O.Reader.ObjectRead O.Writer.ObjectWrite self.now self.now actor (Event.Stat path.now) result }
     {
-        match self.names.walk(path) {
+        if self.master.is_stopped() {
+            return Reply::Refused(Refusal::Stopped);
+        }
+        match self.master.names().walk(path) {
             Walk::Absent => Reply::Refused(Refusal::NotFound),
             Walk::Blocked => Reply::Refused(Refusal::NotDirectory),
             Walk::Found(row) => {

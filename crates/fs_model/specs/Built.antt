@@ -27,4 +27,6 @@ is_built (Event.OpenFile l p kind w) = is_built_read kind
 is_built (Event.Next l) = true
 is_built (Event.Poll l limit) = true
 is_built (Event.Close l) = true
+is_built Event.Checkpoint = true
+is_built (Event.Fuse calls) = true
 is_built e = false

@@ -1,6 +1,6 @@
 //! The names as a checkpoint of the journal.
 
-ghost use Rattle.std.specs.Prelude.{◌≡◌, Err, IsErrOf, OnErr, OnOk};
+ghost use Rattle.std.specs.Prelude.{◌≡◌, ◌⊎◌, Err, IsErrOf, OnErr, OnOk};
 ghost use Rattle.outside.specs.Fuse.{IsBelow, burnt};
 ghost use Rattle.journal_entry.specs.Meaning.{checkpoint_entries};
 ghost use Rattle.journal_disk.specs.Journaling.{BothTell, GoesOn, HadCause, HasCheckpoint, HasFailed, IsFull, StaysAs, checkpoint_calls};
@@ -32,6 +32,7 @@ impl<D: Disk> Master<D> {
         ensures enough { OnOk result (IsBelow self.old.journal.here.fuse (checkpoint_calls (checkpoint_entries (names_of self.old))) → ⊥) }
         ensures failed { IsErrOf result Failed → HadCause (checkpoint_calls (checkpoint_entries (names_of self.old))) D.Disk self.old.journal self.new.journal × HasFailed self.old.journal self.new.journal }
         ensures full { IsErrOf result Full → IsFull self.old.journal (checkpoint_entries (names_of self.old)) }
+        ensures unless { IsFull self.old.journal (checkpoint_entries (names_of self.old)) → (result ≡ Err Full) ⊎ (result ≡ Err Memory) }
         ensures full_stays { IsErrOf result Full → StaysAs D.Disk self.old.journal self.new.journal }
         ensures memory_stays { IsErrOf result Memory → StaysAs D.Disk self.old.journal self.new.journal }
     {

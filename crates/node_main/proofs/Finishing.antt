@@ -1,6 +1,7 @@
 -- An end, once its line was told.
 use Rattle.std.proofs.Common.{◌≡◌, ◌≢◌, ℕ, ◌≤◌, List, take, Option, None, Some, ◌⊎◌, inl, inr, refl, subst, arith}
 use Rattle.std.specs.Option.{IfSome}
+use Rattle.fs_model.specs.declared.stop.Stop.{Stop}
 use Rattle.outside.specs.Causes.{Rose}
 use Rattle.outside.specs.Streams.{Takes}
 use Rattle.node_main.specs.declared.run.End.{End}
@@ -64,9 +65,9 @@ module _ {D S R W : Type 0} (d : disks.Ghosts D) (o : objects.Ghosts S R W) (r :
   before_stop ends.Memory u a = a
   before_stop ends.TooLong u a = inl (a.1, inl a.2)
   before_stop ends.OpenFault u a = inl (a.1, inl a.2)
-  before_stop ends.BadSetup u a = absurd a.0
-  before_stop (ends.Damaged area place) u a = absurd a.0
-  before_stop ends.JournalFault u a = absurd a.0
+  before_stop ends.BadSetup u a = inl (a.1, inr (Stop.Setup, a.0.1))
+  before_stop (ends.Damaged area place) u a = inl (a.1, inr (Stop.Damaged area place, a.0.1))
+  before_stop ends.JournalFault u a = inl (a.1, inr (Stop.JournalFault, a.0.1))
 
   -- its cause with that
   before_line : (end : End) → IsUntold end → Attempted d o r w old new held words before mid world input early end → BeforeLine d o r w old new held words before mid world input end
@@ -95,9 +96,9 @@ module _ {D S R W : Type 0} (d : disks.Ghosts D) (o : objects.Ghosts S R W) (r :
   told ends.Memory u a t = record { between = mid; lines = a; stop = t }
   told ends.TooLong u a t = (a.0, moved _ a.1 t, a.2)
   told ends.OpenFault u a t = (a.0, moved _ a.1 t, a.2)
-  told ends.BadSetup u a t = absurd a.0
-  told (ends.Damaged area place) u a t = absurd a.0
-  told ends.JournalFault u a t = absurd a.0
+  told ends.BadSetup u a t = (a.0, moved _ a.1 t)
+  told (ends.Damaged area place) u a t = (a.0, moved _ a.1 t)
+  told ends.JournalFault u a t = (a.0, moved _ a.1 t)
 
   partly : (end : End) → BeforeLine d o r w old new held words before mid world input end → (bytes : ℕ) → Takes mid after (take bytes (end_text end)) → later → Ended d o r w old new held words before after world input sink ends.WriteFault
   partly end lines bytes t r = (since r, inr (record { end = end; between = mid; lines = lines; bytes = bytes; stop = t }))
@@ -116,23 +117,24 @@ module _ {D S R W : Type 0} (d : disks.Ghosts D) (o : objects.Ghosts S R W) (r :
 
 -- ---- what is due
 
-module _ (held : Held) (words : List (List ℕ)) (mid after : Option (List ℕ)) (world input early sink later : Type 0) (since : later → sink) where
-  sooner : (end : End) → IsUntold end → IsDue held words world input early end → IsDue held words world input sink end
+module _ (held : Held) (words : List (List ℕ)) (mid after : Option (List ℕ)) (world input early sink later : Type 0) (since : later → sink) (P : Stop → Type 0) where
+  sooner : (end : End) → IsUntold end → IsDue held words world input early P end → IsDue held words world input sink P end
   sooner end u (inl e) = inl e
   sooner end u (inr (inl e)) = inr (inl e)
   sooner end u (inr (inr (inl e))) = inr (inr (inl e))
   sooner end u (inr (inr (inr (inl e)))) = inr (inr (inr (inl e)))
-  sooner end u (inr (inr (inr (inr e)))) = absurd (not_write end u e.0)
+  sooner end u (inr (inr (inr (inr (inl e))))) = absurd (not_write end u e.0)
+  sooner end u (inr (inr (inr (inr (inr e))))) = inr (inr (inr (inr (inr e))))
 
-  due_as : (end : End) → IsUntold end → IsDue held words world input early end → (result : End) → ToldAs end mid after later result → IsDue held words world input sink result
+  due_as : (end : End) → IsUntold end → IsDue held words world input early P end → (result : End) → ToldAs end mid after later result → IsDue held words world input sink P result
   due_as end u d result (ToldAs.Told t) = sooner end u d
-  due_as end u d result (ToldAs.Partly bytes t r) = inr (inr (inr (inr (refl, since r))))
+  due_as end u d result (ToldAs.Partly bytes t r) = inr (inr (inr (inr (inl (refl, since r)))))
 
-  due_memory : (result : End) → ToldAs ends.Memory mid after later result → IsDue held words world input sink result
+  due_memory : (result : End) → ToldAs ends.Memory mid after later result → IsDue held words world input sink P result
   due_memory result (ToldAs.Told t) = inr (inl refl)
-  due_memory result (ToldAs.Partly bytes t r) = inr (inr (inr (inr (refl, since r))))
+  due_memory result (ToldAs.Partly bytes t r) = inr (inr (inr (inr (inl (refl, since r)))))
 
-  pub finished_due : (end : End) → IsUntold end → IsDue held words world input early end → (result : End) → FinishedAs end mid after later result → IsDue held words world input sink result
+  pub finished_due : (end : End) → IsUntold end → IsDue held words world input early P end → (result : End) → FinishedAs end mid after later result → IsDue held words world input sink P result
   finished_due end u d result (inl t) = due_as end u d result t
   finished_due end u d result (inr t) = due_memory result t
 
@@ -157,6 +159,45 @@ bad_script ends.OpenFault h = absurd (omega arith)
 bad_script ends.BadSetup h = absurd (omega arith)
 bad_script (ends.Damaged area place) h = absurd (omega arith)
 bad_script ends.JournalFault h = absurd (omega arith)
+
+pub bad_setup : (e : End) → status_of e ≡ 3 → e ≡ ends.BadSetup
+bad_setup ends.BadSetup h = refl
+bad_setup ends.Done h = absurd (omega arith)
+bad_setup ends.BadWords h = absurd (omega arith)
+bad_setup (ends.BadScript line) h = absurd (omega arith)
+bad_setup ends.ReadFault h = absurd (omega arith)
+bad_setup ends.WriteFault h = absurd (omega arith)
+bad_setup (ends.Damaged area place) h = absurd (omega arith)
+bad_setup ends.Memory h = absurd (omega arith)
+bad_setup ends.TooLong h = absurd (omega arith)
+bad_setup ends.OpenFault h = absurd (omega arith)
+bad_setup ends.JournalFault h = absurd (omega arith)
+
+pub journal_fault : (e : End) → status_of e ≡ 11 → e ≡ ends.JournalFault
+journal_fault ends.JournalFault h = refl
+journal_fault ends.Done h = absurd (omega arith)
+journal_fault ends.BadWords h = absurd (omega arith)
+journal_fault ends.BadSetup h = absurd (omega arith)
+journal_fault (ends.BadScript line) h = absurd (omega arith)
+journal_fault ends.ReadFault h = absurd (omega arith)
+journal_fault ends.WriteFault h = absurd (omega arith)
+journal_fault (ends.Damaged area place) h = absurd (omega arith)
+journal_fault ends.Memory h = absurd (omega arith)
+journal_fault ends.TooLong h = absurd (omega arith)
+journal_fault ends.OpenFault h = absurd (omega arith)
+
+pub damaged_at : (e : End) → status_of e ≡ 7 → (area : ℕ) × (place : ℕ) × (e ≡ ends.Damaged area place)
+damaged_at (ends.Damaged area place) h = (area, place, refl)
+damaged_at ends.Done h = absurd (omega arith)
+damaged_at ends.BadWords h = absurd (omega arith)
+damaged_at (ends.BadScript line) h = absurd (omega arith)
+damaged_at ends.ReadFault h = absurd (omega arith)
+damaged_at ends.WriteFault h = absurd (omega arith)
+damaged_at ends.Memory h = absurd (omega arith)
+damaged_at ends.TooLong h = absurd (omega arith)
+damaged_at ends.OpenFault h = absurd (omega arith)
+damaged_at ends.BadSetup h = absurd (omega arith)
+damaged_at ends.JournalFault h = absurd (omega arith)
 
 pub if_some : {T : Type 0} (o : Option T) (P Q : T → Type 0) → ((x : T) → P x → Q x) → IfSome o P → IfSome o Q
 if_some None P Q f h = tt

@@ -1,3 +1,4 @@
 pub mod Finishing
+pub mod OverAreas
 pub mod Playing
 pub mod Telling

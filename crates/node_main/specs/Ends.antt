@@ -1,5 +1,5 @@
 -- How a run ends: its status, its last line, and what each end says.
-use Rattle.std.specs.Prelude.{ℕ, ◌≡◌, ◌⊎◌, ◌<◌, length, nat_lt, take, ⊤, List, [], ◌∷◌, ◌++◌, codes, IsSomeAnd, IsTrue, Result, Ok, Err, Option, Some, None, if◌then◌else◌}
+use Rattle.std.specs.Prelude.{ℕ, ◌≡◌, ◌⊎◌, ◌<◌, length, nat_lt, take, ⊤, List, [], ◌∷◌, ◌++◌, codes, ◌+◌, IsOk, IsSomeAnd, IsTrue, Result, Ok, Err, Option, Some, None, if◌then◌else◌}
 use Rattle.std.specs.Fmt.{decimal}
 use Rattle.fs_model.specs.declared.setup.Setup.{Setup}
 use Rattle.fs_model.specs.declared.stop.Stop.{Stop}
@@ -13,11 +13,15 @@ use Rattle.outside.specs.declared.media.Media.{Media}
 use Rattle.outside.specs.declared.objects.Objects as objects
 use Rattle.outside.specs.declared.objects.ObjectRead as reads
 use Rattle.outside.specs.declared.objects.ObjectWrite as writes
+use Rattle.journal_disk.specs.Areas.{Found, journal_of}
+use Rattle.master_node.specs.Recovery.{first_standing, is_served}
+use Rattle.master_state.specs.Effect.{meaning}
 use Rattle.script_text.specs.declared.script.Command.{Command}
 use Rattle.script_text.specs.declared.read.ScriptFault.{ScriptFault}
 use Rattle.script_text.specs.declared.read.ScriptFault.TheVariants.{BadLine, Memory}
 use Rattle.script_text.specs.ScriptText.{read_script}
 use Rattle.cluster_core.specs.declared.cluster.Core.{Core}
+use Rattle.cluster_core.specs.Begun.{IsUnopened}
 use Rattle.play_run.specs.Play.{Between, Tells, TellsFront, TellsPartly}
 use Rattle.node_main.specs.declared.run.End.{End}
 use Rattle.node_main.specs.declared.run.End.TheVariants as ends
@@ -96,10 +100,26 @@ end_of_names held (Some names) = if is_missed (Some held) names.0 names.1 then e
 abbrev pub due_end : Held → List (List ℕ) → End
 due_end held words = end_of_names held (play_words words)
 
--- the end is the one that is due, or want of memory, or a fault whose count rose: the world's, the script's input's, the sink's
-abbrev pub IsDue : Held → List (List ℕ) → Type 0 → Type 0 → Type 0 → End → Type 0
-IsDue held words world_rose input_rose sink_rose end =
-    (end ≡ due_end held words) ⊎ (end ≡ ends.Memory) ⊎ ((end ≡ ends.OpenFault) × world_rose) ⊎ ((end ≡ ends.ReadFault) × input_rose) ⊎ ((end ≡ ends.WriteFault) × sink_rose)
+-- the end of an opening that doesn't fail, by what both areas stand for; done where a cluster is opened
+abbrev pub end_of_journal : Setup → Found → End
+end_of_journal U (Err damage) = ends.Damaged damage.0 damage.1
+end_of_journal U (Ok None) = if nat_lt U.area ((first_standing U).gate + 1) then ends.BadSetup else ends.Done
+end_of_journal U (Ok (Some current)) = if is_served U (meaning current.entries) then ends.Done else ends.BadSetup
+
+-- the same by the bytes of the areas 0 and 1
+abbrev pub end_of_areas : Setup → List ℕ × List ℕ → End
+end_of_areas U areas = end_of_journal U (journal_of areas.0 areas.1)
+
+-- the end is that of an opening that failed, and P holds of why
+pub data AtOpening (P : Stop → Type 0) : End → Type 0 where
+  BadSetup : P Stop.Setup → AtOpening P ends.BadSetup
+  Damaged : (area place : ℕ) → P (Stop.Damaged area place) → AtOpening P (ends.Damaged area place)
+  JournalFault : P Stop.JournalFault → AtOpening P ends.JournalFault
+
+-- The end is the one that is due, or want of memory, or a fault whose count rose: the world's, the script's input's, the sink's. Or the script was to be played, and the opening failed; P holds of why.
+abbrev pub IsDue : Held → List (List ℕ) → Type 0 → Type 0 → Type 0 → (Stop → Type 0) → End → Type 0
+IsDue held words world_rose input_rose sink_rose P end =
+    (end ≡ due_end held words) ⊎ (end ≡ ends.Memory) ⊎ ((end ≡ ends.OpenFault) × world_rose) ⊎ ((end ≡ ends.ReadFault) × input_rose) ⊎ ((end ≡ ends.WriteFault) × sink_rose) ⊎ ((due_end held words ≡ ends.Done) × AtOpening P end)
 
 -- ---- what was played
 
@@ -112,6 +132,10 @@ Holds (Some held) name P = IsSomeAnd (named held name) P
 abbrev pub IsScript : Option Held → List ℕ → List Command → Type 0
 IsScript held name commands = Holds held name (λ text. read_script text ≡ Ok commands)
 
+-- the text under the name is that of a script
+abbrev pub HasScript : Option Held → List ℕ → Type 0
+HasScript held name = Holds held name (λ text. IsOk (read_script text))
+
 -- the first line under the name that is none of a script
 abbrev pub IsBadAt : Option Held → List ℕ → ℕ → Type 0
 IsBadAt held name line = Holds held name (λ text. read_script text ≡ Err (BadLine line))
@@ -122,7 +146,7 @@ IsLonger held name limit = Holds held name (λ text. limit < length text)
 
 -- ---- what each end says
 
--- why a run ends before its script is played; no opening finds a bad setup or a damaged area yet, and no journal fails
+-- why a run ends before anything is lent
 abbrev pub Cause : Option Held → List (List ℕ) → Type 0 → Type 0 → End → Type 0
 Cause held words world_rose input_rose ends.Done = ⊥
 Cause held words world_rose input_rose ends.BadWords = play_words words ≡ None
@@ -158,6 +182,12 @@ module _ {D S R W : Type 0} (d : disks.Ghosts D) (o : objects.Ghosts S R W) (r :
     pub held : IsHeld kept back
     pub between : Between d o r w U lent back P
 
+  -- no cluster was opened over media that were lent, for this reason; they were given back as the opening left them, to a world that holds this then
+  pub record GivesUp (U : Setup) (kept : Kept) (why : Stop) (lent : Media D S) : Type 0 where
+    pub back : Media D S
+    pub held : IsHeld kept back
+    pub unopened : IsUnopened d U lent back why
+
 -- from here on: what the world holds of areas, stores and tiers before and after
 module _ {D S R W : Type 0} (d : disks.Ghosts D) (o : objects.Ghosts S R W) (r : reads.Ghosts R) (w : writes.Ghosts W) (old new : Kept) where
   -- commands of such a script were played over the example's configuration, on media that were lent and given back
@@ -180,11 +210,21 @@ module _ {D S R W : Type 0} (d : disks.Ghosts D) (o : objects.Ghosts S R W) (r :
   abbrev pub PlaysPartly : (List Command → Type 0) → Option (List ℕ) → Option (List ℕ) → Type 0
   PlaysPartly is_script before after = PlaysSo (λ commands first last. TellsPartly d o r w commands first last before after) is_script
 
-  -- no medium was lent, or they were given back as they were
-  abbrev pub IsUntouched : Type 0
-  IsUntouched = HoldsSame old new ⊎ (media : Media D S) × IsLent d o r w old media × IsHeld d o r w new media
+  -- media were lent and given back, and no cluster was opened over them for this reason
+  pub record IsUnplayed (why : Stop) : Type 0 where
+    pub lent : Media D S
+    pub held : IsLent d o r w old lent
+    pub given : GivesUp d o r w two_workers new why lent
 
-  -- nothing was done yet, or the lines of the first commands were taken
+  -- so it is, and a script under the name in the words was to be played
+  abbrev pub FailsToOpen : Option Held → List (List ℕ) → Stop → Type 0
+  FailsToOpen held words why = IsSomeAnd (play_words words) (λ names. HasScript held names.1) × IsUnplayed why
+
+  -- no medium was lent, or no cluster was opened over those that were
+  abbrev pub IsUntouched : Type 0
+  IsUntouched = HoldsSame old new ⊎ (why : Stop) × IsUnplayed why
+
+  -- no event was done, or the lines of the first commands were taken
   abbrev pub BeforeStop : Option Held → List (List ℕ) → Option (List ℕ) → Option (List ℕ) → Type 0
   BeforeStop held words before after = ((after ≡ before) × IsUntouched) ⊎ IsSomeAnd (play_words words) (λ names. PlaysFront (IsScript held names.1) before after)
 
@@ -194,11 +234,14 @@ module _ {D S R W : Type 0} (d : disks.Ghosts D) (o : objects.Ghosts S R W) (r :
     pub lines : BeforeStop held words before between
     pub stop : Takes between after (end_text end)
 
-  -- why the line of the end is told, and what the sink took before it, nothing being done; no line tells that all was played, or that the sink failed
+  -- why the line of the end is told, and what the sink took before it; no line tells that all was played, or that the sink failed
   abbrev pub BeforeLine : Option Held → List (List ℕ) → Option (List ℕ) → Option (List ℕ) → Type 0 → Type 0 → End → Type 0
   BeforeLine held words before after world_rose input_rose ends.Done = ⊥
   BeforeLine held words before after world_rose input_rose ends.WriteFault = ⊥
   BeforeLine held words before after world_rose input_rose ends.Memory = BeforeStop held words before after
+  BeforeLine held words before after world_rose input_rose ends.BadSetup = FailsToOpen held words Stop.Setup × (after ≡ before)
+  BeforeLine held words before after world_rose input_rose (ends.Damaged area place) = FailsToOpen held words (Stop.Damaged area place) × (after ≡ before)
+  BeforeLine held words before after world_rose input_rose ends.JournalFault = FailsToOpen held words Stop.JournalFault × (after ≡ before)
   BeforeLine held words before after world_rose input_rose end = Cause held words world_rose input_rose end × (after ≡ before) × HoldsSame old new
 
   -- the end has its cause, and a front of its line was taken
@@ -224,6 +267,9 @@ module _ {D S R W : Type 0} (d : disks.Ghosts D) (o : objects.Ghosts S R W) (r :
   Ended held words before after world_rose input_rose sink_rose ends.Done = IsSomeAnd (play_words words) (λ names. Plays (IsScript held names.1) before after)
   Ended held words before after world_rose input_rose sink_rose ends.WriteFault = sink_rose × WritesPartly held words before after world_rose input_rose
   Ended held words before after world_rose input_rose sink_rose ends.Memory = Stops held words ends.Memory before after
+  Ended held words before after world_rose input_rose sink_rose ends.BadSetup = FailsToOpen held words Stop.Setup × Takes before after (end_text ends.BadSetup)
+  Ended held words before after world_rose input_rose sink_rose (ends.Damaged area place) = FailsToOpen held words (Stop.Damaged area place) × Takes before after (end_text (ends.Damaged area place))
+  Ended held words before after world_rose input_rose sink_rose ends.JournalFault = FailsToOpen held words Stop.JournalFault × Takes before after (end_text ends.JournalFault)
   Ended held words before after world_rose input_rose sink_rose end = Cause held words world_rose input_rose end × Takes before after (end_text end) × HoldsSame old new
 
 -- ---- telling the line of an end

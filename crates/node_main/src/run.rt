@@ -13,11 +13,11 @@ ghost use Rattle.outside.specs.Shelf.{HasShape, KeepsBut, all_names, name_lists}
 ghost use Rattle.outside.specs.Streams.{Gives, GivesAll, Takes};
 ghost use Rattle.script_text.specs.ScriptText.{read_script};
 ghost use Rattle.script_text.specs.Commands.{is_command};
-ghost use Rattle.cluster_core.specs.Begun.{MediaFit};
+ghost use Rattle.cluster_core.specs.Begun.{IsUnopened, MediaFit};
 ghost use Rattle.play_run.specs.Play.{Between, Tells, TellsFront, TellsPartly};
 ghost use Rattle.script_text.specs.declared.read.ScriptFault.TheVariants.{BadLine};
 ghost use Rattle.node_main.specs.Words.{is_file_word, play_words};
-ghost use Rattle.node_main.specs.Ends.{Attempted, Ended, FinishedAs, GivesBack, Holds, HoldsSame, IsBadAt, IsDue, IsHeld, IsLonger, IsScript, IsUntouched, Plays, PlaysFront, PlaysPartly, Stops, ToldAs, WritesPartly, end_of_reading, end_of_stop, end_text, media_names, status_of};
+ghost use Rattle.node_main.specs.Ends.{AtOpening, Attempted, Ended, FailsToOpen, FinishedAs, GivesBack, GivesUp, Holds, HoldsSame, IsBadAt, IsDue, IsLonger, IsScript, IsUnplayed, IsUntouched, Plays, PlaysFront, PlaysPartly, Stops, ToldAs, WritesPartly, end_of_areas, end_of_reading, end_of_stop, end_text, media_names, status_of};
 
 use fs_model::items::Items;
 use fs_model::setup::Setup;
@@ -228,9 +228,10 @@ fn play_out<W: World>(
     requires shape { HasShape media_names media }
     ensures done { OnOk result.0 (Between W.Area.Disk W.Store.Objects W.Store.Reader.ObjectRead W.Store.Writer.ObjectWrite setup.now media result.1 (λ first last. Tells W.Area.Disk W.Store.Objects W.Store.Reader.ObjectRead W.Store.Writer.ObjectWrite script.now first last (W.Out.taken (W.output world.old)) (W.Out.taken (W.output world.new)))) }
     ensures partly { result.0 ≡ Err Stop.WriteFault → (Between W.Area.Disk W.Store.Objects W.Store.Reader.ObjectRead W.Store.Writer.ObjectWrite setup.now media result.1 (λ first last. TellsPartly W.Area.Disk W.Store.Objects W.Store.Reader.ObjectRead W.Store.Writer.ObjectWrite script.now first last (W.Out.taken (W.output world.old)) (W.Out.taken (W.output world.new)))) }
-    ensures memory { result.0 ≡ Err Stop.Memory → ((result.1 ≡ media) × (W.output world.new ≡ W.output world.old)) ⊎ (Between W.Area.Disk W.Store.Objects W.Store.Reader.ObjectRead W.Store.Writer.ObjectWrite setup.now media result.1 (λ first last. TellsFront W.Area.Disk W.Store.Objects W.Store.Reader.ObjectRead W.Store.Writer.ObjectWrite script.now first last (W.Out.taken (W.output world.old)) (W.Out.taken (W.output world.new)))) }
+    ensures memory { result.0 ≡ Err Stop.Memory → (IsUnopened W.Area.Disk setup.now media result.1 Stop.Memory × (W.output world.new ≡ W.output world.old)) ⊎ (Between W.Area.Disk W.Store.Objects W.Store.Reader.ObjectRead W.Store.Writer.ObjectWrite setup.now media result.1 (λ first last. TellsFront W.Area.Disk W.Store.Objects W.Store.Reader.ObjectRead W.Store.Writer.ObjectWrite script.now first last (W.Out.taken (W.output world.old)) (W.Out.taken (W.output world.new)))) }
     ensures write { result.0 ≡ Err Stop.WriteFault → Rose (W.Out.faults (W.output world.old)) (W.Out.faults (W.output world.new)) }
-    ensures ends { IfErr result.0 (λ why. (why ≡ Stop.Memory) ⊎ (why ≡ Stop.WriteFault)) }
+    ensures unopened { IfErr result.0 (λ why. (why ≡ Stop.WriteFault → ⊥) → (why ≡ Stop.Memory → ⊥) → IsUnopened W.Area.Disk setup.now media result.1 why × (W.output world.new ≡ W.output world.old)) }
+    ensures never { result.0 ≡ Err Stop.OpenFault → ⊥ }
     ensures shape { HasShape media_names result.1 }
     ensures later { W.Out.faults (W.output world.old) ≤ W.Out.faults (W.output world.new) }
     ensures input { W.script_input world.new ≡ W.script_input world.old }
@@ -257,9 +258,10 @@ fn play_lent<W: World>(
     requires lent { W.lent world.old ≡ Some media_names }
     ensures done { result ≡ End.Done → GivesBack W.Area.Disk W.Store.Objects W.Store.Reader.ObjectRead W.Store.Writer.ObjectWrite setup.now (W.shelf world.new, W.areas world.new) (λ first last. Tells W.Area.Disk W.Store.Objects W.Store.Reader.ObjectRead W.Store.Writer.ObjectWrite script.now first last (W.Out.taken (W.output world.old)) (W.Out.taken (W.output world.new))) media }
     ensures partly { result ≡ End.WriteFault → GivesBack W.Area.Disk W.Store.Objects W.Store.Reader.ObjectRead W.Store.Writer.ObjectWrite setup.now (W.shelf world.new, W.areas world.new) (λ first last. TellsPartly W.Area.Disk W.Store.Objects W.Store.Reader.ObjectRead W.Store.Writer.ObjectWrite script.now first last (W.Out.taken (W.output world.old)) (W.Out.taken (W.output world.new))) media }
-    ensures memory { result ≡ End.Memory → ((W.Out.taken (W.output world.new) ≡ W.Out.taken (W.output world.old)) × IsHeld W.Area.Disk W.Store.Objects W.Store.Reader.ObjectRead W.Store.Writer.ObjectWrite (W.shelf world.new, W.areas world.new) media) ⊎ GivesBack W.Area.Disk W.Store.Objects W.Store.Reader.ObjectRead W.Store.Writer.ObjectWrite setup.now (W.shelf world.new, W.areas world.new) (λ first last. TellsFront W.Area.Disk W.Store.Objects W.Store.Reader.ObjectRead W.Store.Writer.ObjectWrite script.now first last (W.Out.taken (W.output world.old)) (W.Out.taken (W.output world.new))) media }
+    ensures memory { result ≡ End.Memory → ((W.Out.taken (W.output world.new) ≡ W.Out.taken (W.output world.old)) × GivesUp W.Area.Disk W.Store.Objects W.Store.Reader.ObjectRead W.Store.Writer.ObjectWrite setup.now (W.shelf world.new, W.areas world.new) Stop.Memory media) ⊎ GivesBack W.Area.Disk W.Store.Objects W.Store.Reader.ObjectRead W.Store.Writer.ObjectWrite setup.now (W.shelf world.new, W.areas world.new) (λ first last. TellsFront W.Area.Disk W.Store.Objects W.Store.Reader.ObjectRead W.Store.Writer.ObjectWrite script.now first last (W.Out.taken (W.output world.old)) (W.Out.taken (W.output world.new))) media }
     ensures write { result ≡ End.WriteFault → Rose (W.Out.faults (W.output world.old)) (W.Out.faults (W.output world.new)) }
-    ensures ends { (result ≡ End.Done) ⊎ (result ≡ End.WriteFault) ⊎ (result ≡ End.Memory) }
+    ensures ends { (result ≡ End.Done) ⊎ (result ≡ End.WriteFault) ⊎ (result ≡ End.Memory) ⊎ AtOpening (λ why. GivesUp W.Area.Disk W.Store.Objects W.Store.Reader.ObjectRead W.Store.Writer.ObjectWrite setup.now (W.shelf world.new, W.areas world.new) why media × (W.output world.new ≡ W.output world.old)) result }
+    ensures never { result ≡ End.OpenFault → ⊥ }
     ensures later { W.Out.faults (W.output world.old) ≤ W.Out.faults (W.output world.new) }
     ensures input { W.script_input world.new ≡ W.script_input world.old }
     ensures held { W.held world.new ≡ W.held world.old }
@@ -276,7 +278,7 @@ fn play_lent<W: World>(
     }
 }
 
-/// Plays a script over fresh areas and the media of the example, which the world lends meanwhile.
+/// Plays a script over the media of the example, which the world lends meanwhile.
 fn play_script<W: World>(alloc: Global, script: &Script, world: &mut W) -> End
     requires commands { list_all is_command script.now ≡ true }
     requires idle { W.lent world.old ≡ None }
@@ -285,7 +287,7 @@ fn play_script<W: World>(alloc: Global, script: &Script, world: &mut W) -> End
     ensures memory { result ≡ End.Memory → ((W.Out.taken (W.output world.new) ≡ W.Out.taken (W.output world.old)) × IsUntouched W.Area.Disk W.Store.Objects W.Store.Reader.ObjectRead W.Store.Writer.ObjectWrite (W.shelf world.old, W.areas world.old) (W.shelf world.new, W.areas world.new)) ⊎ PlaysFront W.Area.Disk W.Store.Objects W.Store.Reader.ObjectRead W.Store.Writer.ObjectWrite (W.shelf world.old, W.areas world.old) (W.shelf world.new, W.areas world.new) (λ commands. commands ≡ script.now) (W.Out.taken (W.output world.old)) (W.Out.taken (W.output world.new)) }
     ensures open { result ≡ End.OpenFault → Rose (W.faults world.old) (W.faults world.new) × (W.output world.new ≡ W.output world.old) × HoldsSame (W.shelf world.old, W.areas world.old) (W.shelf world.new, W.areas world.new) }
     ensures write { result ≡ End.WriteFault → Rose (W.Out.faults (W.output world.old)) (W.Out.faults (W.output world.new)) }
-    ensures ends { (result ≡ End.Done) ⊎ (result ≡ End.WriteFault) ⊎ (result ≡ End.OpenFault) ⊎ (result ≡ End.Memory) }
+    ensures ends { (result ≡ End.Done) ⊎ (result ≡ End.WriteFault) ⊎ (result ≡ End.OpenFault) ⊎ (result ≡ End.Memory) ⊎ AtOpening (λ why. IsUnplayed W.Area.Disk W.Store.Objects W.Store.Reader.ObjectRead W.Store.Writer.ObjectWrite (W.shelf world.old, W.areas world.old) (W.shelf world.new, W.areas world.new) why × (W.output world.new ≡ W.output world.old)) result }
     ensures later { W.Out.faults (W.output world.old) ≤ W.Out.faults (W.output world.new) }
     ensures input { W.script_input world.new ≡ W.script_input world.old }
     ensures held { W.held world.new ≡ W.held world.old }
@@ -313,7 +315,7 @@ fn play_text<W: World>(alloc: Global, text: &[u8], world: &mut W) -> End
     ensures open { result ≡ End.OpenFault → Rose (W.faults world.old) (W.faults world.new) × (W.output world.new ≡ W.output world.old) × HoldsSame (W.shelf world.old, W.areas world.old) (W.shelf world.new, W.areas world.new) }
     ensures bad { (line : ℕ) → result ≡ End.BadScript line → (read_script text.now ≡ Err (BadLine line)) × (W.output world.new ≡ W.output world.old) × HoldsSame (W.shelf world.old, W.areas world.old) (W.shelf world.new, W.areas world.new) }
     ensures write { result ≡ End.WriteFault → Rose (W.Out.faults (W.output world.old)) (W.Out.faults (W.output world.new)) }
-    ensures due { (result ≡ end_of_reading (read_script text.now)) ⊎ (result ≡ End.Memory) ⊎ (result ≡ End.WriteFault) ⊎ (result ≡ End.OpenFault) }
+    ensures due { (result ≡ end_of_reading (read_script text.now)) ⊎ (result ≡ End.Memory) ⊎ (result ≡ End.WriteFault) ⊎ (result ≡ End.OpenFault) ⊎ ((end_of_reading (read_script text.now) ≡ End.Done) × AtOpening (λ why. IsUnplayed W.Area.Disk W.Store.Objects W.Store.Reader.ObjectRead W.Store.Writer.ObjectWrite (W.shelf world.old, W.areas world.old) (W.shelf world.new, W.areas world.new) why × (W.output world.new ≡ W.output world.old)) result) }
     ensures later { W.Out.faults (W.output world.old) ≤ W.Out.faults (W.output world.new) }
     ensures input { W.script_input world.new ≡ W.script_input world.old }
     ensures held { W.held world.new ≡ W.held world.old }
@@ -334,7 +336,7 @@ fn attempt<W: World>(alloc: Global, words: &[String], world: &mut W) -> End
     requires { W.lent world.old ≡ None }
     ensures ended { Attempted W.Area.Disk W.Store.Objects W.Store.Reader.ObjectRead W.Store.Writer.ObjectWrite (W.shelf world.old, W.areas world.old) (W.shelf world.new, W.areas world.new) (W.held world.old) (map string_bytes words.now) (W.Out.taken (W.output world.old)) (W.Out.taken (W.output world.new)) (Rose (W.faults world.old) (W.faults world.new)) (Rose (W.In.faults (W.script_input world.old)) (W.In.faults (W.script_input world.new))) (Rose (W.Out.faults (W.output world.old)) (W.Out.faults (W.output world.new))) result }
     ensures words { play_words (map string_bytes words.now) ≡ None → result ≡ End.BadWords }
-    ensures due { IfSome (W.held world.old) (λ held. IsDue held (map string_bytes words.now) (Rose (W.faults world.old) (W.faults world.new)) (Rose (W.In.faults (W.script_input world.old)) (W.In.faults (W.script_input world.new))) (Rose (W.Out.faults (W.output world.old)) (W.Out.faults (W.output world.new))) result) }
+    ensures due { IfSome (W.held world.old) (λ held. IsDue held (map string_bytes words.now) (Rose (W.faults world.old) (W.faults world.new)) (Rose (W.In.faults (W.script_input world.old)) (W.In.faults (W.script_input world.new))) (Rose (W.Out.faults (W.output world.old)) (W.Out.faults (W.output world.new))) (IsUnplayed W.Area.Disk W.Store.Objects W.Store.Reader.ObjectRead W.Store.Writer.ObjectWrite (W.shelf world.old, W.areas world.old) (W.shelf world.new, W.areas world.new)) result) }
     ensures world_later { W.faults world.old ≤ W.faults world.new }
     ensures input_later { W.In.faults (W.script_input world.old) ≤ W.In.faults (W.script_input world.new) }
     ensures sink_later { W.Out.faults (W.output world.old) ≤ W.Out.faults (W.output world.new) }
@@ -468,7 +470,7 @@ fn run_to_end<W: World>(alloc: Global, words: &[String], world: &mut W) -> End
     requires { W.lent world.old ≡ None }
     ensures ended { Ended W.Area.Disk W.Store.Objects W.Store.Reader.ObjectRead W.Store.Writer.ObjectWrite (W.shelf world.old, W.areas world.old) (W.shelf world.new, W.areas world.new) (W.held world.old) (map string_bytes words.now) (W.Out.taken (W.output world.old)) (W.Out.taken (W.output world.new)) (Rose (W.faults world.old) (W.faults world.new)) (Rose (W.In.faults (W.script_input world.old)) (W.In.faults (W.script_input world.new))) (Rose (W.Out.faults (W.output world.old)) (W.Out.faults (W.output world.new))) result }
     ensures words { play_words (map string_bytes words.now) ≡ None → (result ≡ End.BadWords) ⊎ (result ≡ End.WriteFault) ⊎ (result ≡ End.Memory) }
-    ensures due { IfSome (W.held world.old) (λ held. IsDue held (map string_bytes words.now) (Rose (W.faults world.old) (W.faults world.new)) (Rose (W.In.faults (W.script_input world.old)) (W.In.faults (W.script_input world.new))) (Rose (W.Out.faults (W.output world.old)) (W.Out.faults (W.output world.new))) result) }
+    ensures due { IfSome (W.held world.old) (λ held. IsDue held (map string_bytes words.now) (Rose (W.faults world.old) (W.faults world.new)) (Rose (W.In.faults (W.script_input world.old)) (W.In.faults (W.script_input world.new))) (Rose (W.Out.faults (W.output world.old)) (W.Out.faults (W.output world.new))) (IsUnplayed W.Area.Disk W.Store.Objects W.Store.Reader.ObjectRead W.Store.Writer.ObjectWrite (W.shelf world.old, W.areas world.old) (W.shelf world.new, W.areas world.new)) result) }
     ensures held { W.held world.new ≡ W.held world.old }
     ensures others { KeepsBut (all_names media_names) (W.shelf world.old) (W.shelf world.new) }
     ensures areas_others { KeepsAreasBut media_names.journal (W.areas world.old) (W.areas world.new) }
@@ -488,13 +490,15 @@ fn run_to_end<W: World>(alloc: Global, words: &[String], world: &mut W) -> End
 /// |---|---|---|
 /// | 0 | none | the script was read to its end and the line of each of its events was written |
 /// | 2 | `stopped 2 BadWords` | exactly where the words aren't `play CONFIG SCRIPT`, each name not empty and not beginning with `-` |
+/// | 3 | `stopped 3 BadConfig store` | exactly where what the current area keeps doesn't mount `/`, or has a mount in a store that isn't configured, or no area is open and the first checkpoint is longer than an area may be; no event was done |
 /// | 4 | `stopped 4 BadScript LINE` | exactly where that line is the first that is no script line; nothing was done |
 /// | 5 | `stopped 5 ReadFault` | only where an input failed |
 /// | 6 | none | only where the output failed; it then took a front of the lines, or a front of the line of another status, whose row holds |
+/// | 7 | `stopped 7 Damaged AREA PLACE` | exactly where the current area is no area's text, from that place on; no event was done |
 /// | 8 | `stopped 8 Memory` | want of memory; the lines of the first events may stand before it |
 /// | 9 | `stopped 9 TooLong` | exactly where the script has more than 16 MiB |
 /// | 10 | `stopped 10 OpenFault` | only where opening an input, or lending the areas, stores and tiers, failed, or nothing is held under a name |
-/// | 3, 7, 11 | `stopped 3 BadConfig store`, `stopped 7 Damaged AREA PLACE`, `stopped 11 JournalFault` | never yet |
+/// | 11 | `stopped 11 JournalFault` | only where an area's own count of failures rose in the opening; no event was done |
 ///
 /// Each "exactly where" yields to a fault or want of memory that comes before. The inputs stay as the world holds
 /// them under their names. The areas, stores and tiers are lent once the script is read, and given back once, as the play
@@ -521,11 +525,18 @@ pub fn run<W: World>(alloc: Global, words: &[String], world: &mut W) -> u8
     ensures memory { result ≡ 8 → Stops W.Area.Disk W.Store.Objects W.Store.Reader.ObjectRead W.Store.Writer.ObjectWrite (W.shelf world.old, W.areas world.old) (W.shelf world.new, W.areas world.new) (W.held world.old) (map string_bytes words.now) End.Memory (W.Out.taken (W.output world.old)) (W.Out.taken (W.output world.new)) }
     ensures long { result ≡ 9 → IsSomeAnd (play_words (map string_bytes words.now)) (λ names. IsLonger (W.held world.old) names.1 LIMIT) × Takes (W.Out.taken (W.output world.old)) (W.Out.taken (W.output world.new)) (end_text End.TooLong) × HoldsSame (W.shelf world.old, W.areas world.old) (W.shelf world.new, W.areas world.new) }
 
-    // No opening finds a bad setup or a damaged area yet, and no journal fails.
-    ensures never { (result ≡ 3) ⊎ (result ≡ 7) ⊎ (result ≡ 11) → ⊥ }
+    // The media were lent, and no cluster was opened over them: the setup doesn't serve what their areas keep, the
+    // current area is damaged at a place, or an area failed. They were given back, and nothing but the line was written.
+    ensures setup { result ≡ 3 → FailsToOpen W.Area.Disk W.Store.Objects W.Store.Reader.ObjectRead W.Store.Writer.ObjectWrite (W.shelf world.old, W.areas world.old) (W.shelf world.new, W.areas world.new) (W.held world.old) (map string_bytes words.now) Stop.Setup × Takes (W.Out.taken (W.output world.old)) (W.Out.taken (W.output world.new)) (end_text End.BadSetup) }
+    ensures damaged { result ≡ 7 → (area : ℕ) × (place : ℕ) × FailsToOpen W.Area.Disk W.Store.Objects W.Store.Reader.ObjectRead W.Store.Writer.ObjectWrite (W.shelf world.old, W.areas world.old) (W.shelf world.new, W.areas world.new) (W.held world.old) (map string_bytes words.now) (Stop.Damaged area place) × Takes (W.Out.taken (W.output world.old)) (W.Out.taken (W.output world.new)) (end_text (End.Damaged area place)) }
+    ensures journal { result ≡ 11 → FailsToOpen W.Area.Disk W.Store.Objects W.Store.Reader.ObjectRead W.Store.Writer.ObjectWrite (W.shelf world.old, W.areas world.old) (W.shelf world.new, W.areas world.new) (W.held world.old) (map string_bytes words.now) Stop.JournalFault × Takes (W.Out.taken (W.output world.old)) (W.Out.taken (W.output world.new)) (end_text End.JournalFault) }
 
-    // Where the world tells, the end is the one that is due by what it holds, or want of memory, or a fault whose count rose.
-    ensures due { IfSome (W.held world.old) (λ held. (end : End) × (result ≡ status_of end) × IsDue held (map string_bytes words.now) (Rose (W.faults world.old) (W.faults world.new)) (Rose (W.In.faults (W.script_input world.old)) (W.In.faults (W.script_input world.new))) (Rose (W.Out.faults (W.output world.old)) (W.Out.faults (W.output world.new))) end) }
+    // Where the world tells, the end is the one that is due by what it holds, or want of memory, or a fault whose count rose,
+    // or, in place of the whole script, that no cluster was opened over the media.
+    ensures due { IfSome (W.held world.old) (λ held. (end : End) × (result ≡ status_of end) × IsDue held (map string_bytes words.now) (Rose (W.faults world.old) (W.faults world.new)) (Rose (W.In.faults (W.script_input world.old)) (W.In.faults (W.script_input world.new))) (Rose (W.Out.faults (W.output world.old)) (W.Out.faults (W.output world.new))) (IsUnplayed W.Area.Disk W.Store.Objects W.Store.Reader.ObjectRead W.Store.Writer.ObjectWrite (W.shelf world.old, W.areas world.old) (W.shelf world.new, W.areas world.new)) end) }
+
+    // Where the world tells its areas, status 0, 3 or 7 is the one that is due by what they hold.
+    ensures areas { IfSome (W.areas world.old) (λ areas. (result ≡ 0) ⊎ (result ≡ 3) ⊎ (result ≡ 7) → result ≡ status_of (end_of_areas two_workers (areas media_names.journal))) }
 
     ensures held { W.held world.new ≡ W.held world.old }
 

@@ -3,6 +3,7 @@ ghost use Rattle.std.specs.Prelude.{◌≡◌, IfOk, None};
 use crate::run::run;
 use outside_mem::{ByNumber, Failing, MemDisk, MemObjects, MemWorld};
 use std::alloc::Global;
+use std::process::Abort;
 use std::test::Fail;
 
 /// A world that holds an empty configuration `c` and this script `s`.
@@ -301,9 +302,21 @@ fn a_reader_that_is_not_ready_goes_on(rt: HostRuntime) -> Result<(), Fail> {
     Ok(())
 }
 
-/// An area in memory that holds this text.
-fn area(alloc: Global, text: &str) -> Result<MemDisk, Fail> {
-    Ok(MemDisk::new(Vec::from_slice(alloc, text.as_bytes())?))
+/// Area 0 after the first checkpoint and `mkdir /a`.
+const FIRST: &[u8; 65] = b"\x01\x00\x00\x00\x00\x00\x00\x00\x01\
+\x01\x00\x00\x00\x11\x0f\x00\x00\x00\x00\x00\x00\x00\x01\x00\x00\x00\x00\x00\x00\x00\x01\
+\x01\x00\x00\x00\x12\x0a\x00\x01/\x00\x00\x00\x01\x00\x00\x00\x00\x00\x00\x00\x00\x00\x00\
+\x01\x00\x00\x00\x05\x01\x00\x02/a\x00";
+
+/// Area 1 after the checkpoint that follows.
+const SECOND: &[u8; 85] = b"\x01\x00\x00\x00\x00\x00\x00\x00\x02\
+\x01\x00\x00\x00\x11\x0f\x00\x00\x00\x00\x00\x00\x00\x01\x00\x00\x00\x00\x00\x00\x00\x01\
+\x01\x00\x00\x00\x12\x0a\x00\x01/\x00\x00\x00\x01\x00\x00\x00\x00\x00\x00\x00\x00\x00\x00\
+\x01\x00\x00\x00\x19\x10\x00\x02/a\x00\x00\x00\x00\x00\x00\x00\x00\x00\x00\x00\x00\x00\x00\x00\x00\x00\x01\x00\x00\x00";
+
+/// An area in memory that holds these bytes.
+fn area(alloc: Global, bytes: &[u8]) -> Result<MemDisk, Fail> {
+    Ok(MemDisk::new(Vec::from_slice(alloc, bytes)?))
 }
 
 /// What the world holds in the areas of this journal.
@@ -312,31 +325,148 @@ fn areas_in<'a>(world: &'a MemWorld, journal: &str) -> Result<(&'a [u8], &'a [u8
     Ok((first.bytes(), second.bytes()))
 }
 
+/// Checks what the world holds in the areas of the journal that is played over.
+fn has_areas(rt: &impl Abort, world: &MemWorld, first: &[u8], second: &[u8]) -> Result<(), Fail> {
+    let (a, b) = areas_in(world, "j")?;
+    assert_eq!(rt; a, first);
+    assert_eq!(rt; b, second);
+    Ok(())
+}
+
 #[test]
-fn the_areas_come_back(rt: HostRuntime) -> Result<(), Fail> {
+fn a_play_leaves_its_names_in_the_first_area(rt: HostRuntime) -> Result<(), Fail> {
     let alloc = rt.alloc();
     let mut world = world_of(alloc, b"1 mkdir /a\n")?;
-    world.hold_areas("j", area(alloc, "first")?, area(alloc, "second")?)?;
-    world.hold_areas("k", area(alloc, "third")?, area(alloc, "")?)?;
+    world.hold_areas("k", area(alloc, b"third")?, area(alloc, b"")?)?;
     let words = words_of(alloc, "play c s")?;
     assert_eq!(rt; run(alloc, &words, &mut world), 0);
-    let (first, second) = areas_in(&world, "j")?;
-    assert_eq!(rt; first, b"first".as_slice());
-    assert_eq!(rt; second, b"second".as_slice());
+    has_areas(&rt, &world, FIRST, b"")?;
     let (third, _) = areas_in(&world, "k")?;
     assert_eq!(rt; third, b"third".as_slice());
     Ok(())
 }
 
 #[test]
-fn areas_that_are_not_there_are_made(rt: HostRuntime) -> Result<(), Fail> {
+fn a_second_play_has_the_names_of_the_first(rt: HostRuntime) -> Result<(), Fail> {
     let alloc = rt.alloc();
     let mut world = world_of(alloc, b"1 mkdir /a\n")?;
     let words = words_of(alloc, "play c s")?;
     assert_eq!(rt; run(alloc, &words, &mut world), 0);
-    let (first, second) = areas_in(&world, "j")?;
-    assert!(rt; first.is_empty());
-    assert!(rt; second.is_empty());
+    world.hold("s", b"1 ls /\n1 mkdir /a\n")?;
+    assert_eq!(rt; run(alloc, &words, &mut world), 0);
+    assert_eq!(rt;
+        world.out.bytes.as_slice(),
+        b"1 mkdir /a -> done\n1 ls / -> names a\n1 mkdir /a -> refused 3 Exists\n".as_slice()
+    );
+    has_areas(&rt, &world, FIRST, b"")
+}
+
+/// A world with this script whose journal has areas with these bytes.
+fn world_over(alloc: Global, script: &[u8], a: &[u8], b: &[u8]) -> Result<MemWorld, Fail>
+    ensures { IfOk result (λ world. world.shelf.lent ≡ None) }
+{
+    let mut world = world_of(alloc, script)?;
+    world.hold_areas("j", area(alloc, a)?, area(alloc, b)?)?;
+    Ok(world)
+}
+
+#[test]
+fn an_area_that_is_not_open_is_begun_anew(rt: HostRuntime) -> Result<(), Fail> {
+    let alloc = rt.alloc();
+    let mut world = world_over(alloc, b"1 mkdir /a\n", b"first", b"second")?;
+    let words = words_of(alloc, "play c s")?;
+    assert_eq!(rt; run(alloc, &words, &mut world), 0);
+    has_areas(&rt, &world, FIRST, b"second")
+}
+
+/// Checks a play of `1 ls /` over areas with these bytes: its status, what it writes, and that it leaves the areas so.
+fn ends_over(
+    rt: &impl Abort,
+    alloc: Global,
+    a: &[u8],
+    b: &[u8],
+    status: u8,
+    text: &str,
+) -> Result<(), Fail> {
+    let mut world = world_over(alloc, b"1 ls /\n", a, b)?;
+    let words = words_of(alloc, "play c s")?;
+    assert_eq!(rt; run(alloc, &words, &mut world), status);
+    assert_eq!(rt; world.out.bytes.as_slice(), text.as_bytes());
+    has_areas(rt, &world, a, b)
+}
+
+/// Bytes with another byte at this place.
+fn changed(alloc: Global, bytes: &[u8], place: usize, byte: u8) -> Result<Vec<u8>, Fail> {
+    let mut area = Vec::from_slice(alloc, bytes)?;
+    if let Some(at) = area.get_mut(place) {
+        *at = byte;
+    }
+    Ok(area)
+}
+
+#[test]
+fn an_open_area_is_read(rt: HostRuntime) -> Result<(), Fail> {
+    let alloc = rt.alloc();
+    ends_over(&rt, alloc, FIRST, b"", 0, "1 ls / -> names a\n")?;
+    ends_over(&rt, alloc, FIRST, SECOND, 0, "1 ls / -> names a\n")
+}
+
+#[test]
+fn a_damaged_area_has_its_status_and_place(rt: HostRuntime) -> Result<(), Fail> {
+    let alloc = rt.alloc();
+    let cut = FIRST.get(..60).ok_or("too short")?;
+    ends_over(&rt, alloc, cut, b"", 7, "stopped 7 Damaged 0 54\n")?;
+    let longer = changed(alloc, SECOND, 84, 2)?;
+    ends_over(&rt, alloc, FIRST, &longer, 7, "stopped 7 Damaged 1 84\n")?;
+    // The area that isn't current may be damaged.
+    ends_over(&rt, alloc, cut, SECOND, 0, "1 ls / -> names a\n")
+}
+
+#[test]
+fn a_mount_in_no_store_is_a_bad_setup(rt: HostRuntime) -> Result<(), Fail> {
+    let alloc = rt.alloc();
+    let text = "stopped 3 BadConfig store\n";
+    // There are two stores, and `/` is to be mounted.
+    let second = changed(alloc, FIRST, 43, 2)?;
+    ends_over(&rt, alloc, &second, b"", 0, "1 ls / -> names a\n")?;
+    ends_over(&rt, alloc, &changed(alloc, FIRST, 43, 3)?, b"", 3, text)?;
+    ends_over(&rt, alloc, &changed(alloc, FIRST, 43, 0)?, b"", 3, text)?;
+    ends_over(&rt, alloc, &changed(alloc, FIRST, 31, 0)?, b"", 3, text)
+}
+
+/// An area in memory that holds these bytes, and whose first read fails.
+fn unreadable(alloc: Global, bytes: &[u8]) -> Result<MemDisk, Fail> {
+    let mut disk = area(alloc, bytes)?;
+    disk.calls.reads.failing = Failing::listed(alloc, &[1])?;
+    Ok(disk)
+}
+
+#[test]
+fn an_area_that_fails_ends_the_run(rt: HostRuntime) -> Result<(), Fail> {
+    let alloc = rt.alloc();
+    let mut world = world_of(alloc, b"1 ls /\n")?;
+    world.hold_areas("j", area(alloc, FIRST)?, unreadable(alloc, SECOND)?)?;
+    let (status, written) = played_in(alloc, world)?;
+    assert_eq!(rt; status, 11);
+    assert_eq!(rt; written.as_slice(), b"stopped 11 JournalFault\n".as_slice());
+    Ok(())
+}
+
+/// An area in memory that holds nothing, and whose first write fails.
+fn unwritable(alloc: Global) -> Result<MemDisk, Fail> {
+    let mut disk = area(alloc, b"")?;
+    disk.calls.writes.failing = Failing::listed(alloc, &[1])?;
+    Ok(disk)
+}
+
+#[test]
+fn an_area_that_cannot_be_begun_ends_the_run(rt: HostRuntime) -> Result<(), Fail> {
+    let alloc = rt.alloc();
+    let mut world = world_of(alloc, b"1 ls /\n")?;
+    world.hold_areas("j", unwritable(alloc)?, area(alloc, b"")?)?;
+    let (status, written) = played_in(alloc, world)?;
+    assert_eq!(rt; status, 11);
+    assert_eq!(rt; written.as_slice(), b"stopped 11 JournalFault\n".as_slice());
     Ok(())
 }
 

@@ -1,11 +1,13 @@
 -- A play that has come some way.
-use Rattle.std.proofs.Common.{◌≡◌, ℕ, zero, suc, Bool, true, ◌+◌, ◌≤◌, ◌<◌, List, [], ◌∷◌, ◌++◌, length, take, drop, get_or, Option, Result, Ok, Err, refl, sym, ap, ◌∙◌, subst, append_assoc, arith}
+use Rattle.std.proofs.Common.{◌≡◌, ℕ, zero, suc, Bool, true, ◌+◌, ◌≤◌, ◌<◌, List, [], ◌∷◌, ◌++◌, length, take, drop, get_or, Option, Result, Ok, Err, inl, inr, refl, sym, ap, ◌∙◌, subst, append_assoc, arith}
 use Rattle.std.proofs.lemmas.Bool.{and_parts}
 use Rattle.std.proofs.lemmas.List.{append-nil, take_more}
 use Rattle.std.specs.List.{list_all}
-use Rattle.std.specs.Result.{OnOk}
+use Rattle.std.specs.Prelude.{◌⊎◌}
+use Rattle.std.specs.Result.{OnOk, IfErr}
 use Rattle.fs_model.specs.declared.setup.Setup.{Setup}
 use Rattle.fs_model.specs.declared.reply.Line.{Line}
+use Rattle.fs_model.specs.declared.stop.Stop.{Stop}
 use Rattle.fs_model.specs.State.{Whole}
 use Rattle.fs_model.specs.Step.{WholeStep, Observation, Run}
 use Rattle.outside.specs.Streams.{Takes}
@@ -17,6 +19,7 @@ use Rattle.outside.proofs.Known.{Takes-nil, Takes-trans}
 use Rattle.script_text.specs.declared.script.Command.{Command}
 use Rattle.script_text.specs.LineText.{line_text, lines_text}
 use Rattle.cluster_core.specs.Causes.{IsCaused}
+use Rattle.cluster_core.specs.Crashes.{Crashes}
 use Rattle.cluster_core.specs.Goes.{Rises}
 use Rattle.cluster_core.specs.Media.{MediaStays}
 use Rattle.cluster_core.specs.Stands.{Stands}
@@ -24,7 +27,7 @@ use Rattle.cluster_core.specs.Steady.{IsSteady}
 use Rattle.cluster_core.specs.declared.cluster.Core.{Core}
 use Rattle.play_run.specs.Play.{Says, Played, Acts, CausedAlong, Lines, QuietRuns, Ran, Tells, TellsFront, TellsPartly}
 use Rattle.play_run.specs.Sums.{RiseAlong}
-use Rattle.play_run.proofs.Sums.{run_faults, run_waits, steady_sums, sums}
+use Rattle.play_run.proofs.Sums.{area_sums, run_faults, run_journal, run_waits, steady_sums, sums}
 
 -- ---- lists
 
@@ -74,12 +77,12 @@ module _ {D S R W : Type 0} (d : disks.Ghosts D) (o : objects.Ghosts S R W) (r :
   rise_more [] (y ∷ ys) l x old mid new along h stays steady = absurd along
   rise_more (m ∷ ls) [] l x old mid new along h stays steady = absurd along
 
-  cause_more : (ls : List Line) (l : Line) (old mid new : Core D S R W d w) → CausedAlong d o r w old ls mid → IsCaused d o r w mid new l.actor l.event l.reply → MediaStays d o mid new → (IsSteady d o r w mid → IsSteady d o r w new) → CausedAlong d o r w old (ls ++ l ∷ []) new
-  cause_more [] l old mid new along h stays steady = (new, subst (λ (y : Core D S R W d w). IsCaused d o r w y new l.actor l.event l.reply) along h, subst (λ (y : Core D S R W d w). MediaStays d o y new) along stays, subst (λ (y : Core D S R W d w). IsSteady d o r w y → IsSteady d o r w new) along steady, refl)
-  cause_more (m ∷ ls) l old mid new along h stays steady = (along.0, along.1, along.2, along.3, cause_more ls l along.0 mid new along.4 h stays steady)
+  cause_more : (ls : List Line) (l : Line) (old mid new : Core D S R W d w) → CausedAlong d o r w old ls mid → IsCaused d o r w mid new l.actor l.event l.reply → MediaStays d o mid new → (IsSteady d o r w mid → IsSteady d o r w new) → Crashes d mid new l.actor l.event l.reply → CausedAlong d o r w old (ls ++ l ∷ []) new
+  cause_more [] l old mid new along h stays steady crash = (new, subst (λ (y : Core D S R W d w). IsCaused d o r w y new l.actor l.event l.reply) along h, subst (λ (y : Core D S R W d w). MediaStays d o y new) along stays, subst (λ (y : Core D S R W d w). IsSteady d o r w y → IsSteady d o r w new) along steady, subst (λ (y : Core D S R W d w). Crashes d y new l.actor l.event l.reply) along crash, refl)
+  cause_more (m ∷ ls) l old mid new along h stays steady crash = (along.0, along.1, along.2, along.3, along.4, cause_more ls l along.0 mid new along.5 h stays steady crash)
 
   ran_nothing : (U : Setup) (V : Whole) (core : Core D S R W d w) → Stands d o r w U core V → Ran d o r w U V core [] core
-  ran_nothing U V core stands = record { after = V; seen = []; run = refl; rose = refl; faults = run_faults o r U V V core [] [] core refl refl; not_ready = run_waits o r U V V core [] [] core refl refl; few = sums o r core [] [] core refl; steady = λ steady. steady_sums d o r w core [] [] core refl steady; stands = stands }
+  ran_nothing U V core stands = record { after = V; seen = []; run = refl; rose = refl; faults = run_faults o r U V V core [] [] core refl refl; not_ready = run_waits o r U V V core [] [] core refl refl; journal = run_journal d o r w U V V core [] [] core refl refl; few = sums o r core [] [] core refl; few_areas = area_sums d o r w core [] [] core refl; steady = λ steady. steady_sums d o r w core [] [] core refl steady; stands = stands }
 
   -- one line more
   ran_more : (U : Setup) (c : Command) (ls : List Line) (l : Line) (V : Whole) (old mid new : Core D S R W d w) → Ran d o r w U V old ls mid → Acts d o r w c l mid new → Ran d o r w U V old (ls ++ l ∷ []) new
@@ -97,7 +100,9 @@ module _ {D S R W : Type 0} (d : disks.Ghosts D) (o : objects.Ghosts S R W) (r :
         rose = rose;
         faults = run_faults o r U V goes.after old lines seen new rose run;
         not_ready = run_waits o r U V goes.after old lines seen new rose run;
+        journal = run_journal d o r w U V goes.after old lines seen new rose run;
         few = sums o r old lines seen new rose;
+        few_areas = area_sums d o r w old lines seen new rose;
         steady = steady_sums d o r w old lines seen new rose;
         stands = goes.stands;
       }
@@ -105,7 +110,7 @@ module _ {D S R W : Type 0} (d : disks.Ghosts D) (o : objects.Ghosts S R W) (r :
   did_more : (cs : List Command) (c : Command) (ls : List Line) (l : Line) (old mid new : Core D S R W d w) → Lines d o r w cs old ls mid → Acts d o r w c l mid new → Lines d o r w (cs ++ c ∷ []) old (ls ++ l ∷ []) new
   did_more cs c ls l old mid new did acts = record {
     played = played_more cs ls c l acts.says did.played;
-    caused = cause_more ls l old mid new did.caused acts.cause acts.media acts.steady;
+    caused = cause_more ls l old mid new did.caused acts.cause acts.media acts.steady acts.crash;
     ran = λ U V stands. ran_more U c ls l V old mid new (did.ran U V stands) acts;
   }
 
@@ -190,6 +195,12 @@ all_there test (d ∷ ds) (suc i) c h lt at = all_there test ds i c (and_parts (
 pub if_ok : {T E : Type 0} (result : Result T E) (P Q : Type 0) → (P → Q) → OnOk result P → OnOk result Q
 if_ok (Ok x) P Q f h = f h
 if_ok (Err e) P Q f h = tt
+
+-- an end is one of two, so no other comes
+pub no_other : {T : Type 0} (result : Result T Stop) (P : Stop → Type 0) → IfErr result (λ why. (why ≡ Stop.Memory) ⊎ (why ≡ Stop.WriteFault)) → IfErr result (λ why. (why ≡ Stop.WriteFault → ⊥) → (why ≡ Stop.Memory → ⊥) → P why)
+no_other (Ok x) P h = tt
+no_other (Err why) P (inl is) = λ no_write no_memory. absurd (no_memory is)
+no_other (Err why) P (inr is) = λ no_write no_memory. absurd (no_write is)
 
 -- from its end on, all of a list is taken
 pub take_all : (cs : List Command) (i : ℕ) → (i < length cs → ⊥) → take i cs ≡ cs

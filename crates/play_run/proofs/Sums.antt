@@ -1,8 +1,8 @@
--- The sums of the tiers' counts along a run.
-use Rattle.std.proofs.Common.{◌≡◌, ℕ, zero, suc, Bool, true, false, cond, nat_lt, true≢false, pred, ◌+◌, ◌≤◌, ◌<◌, min, List, [], ◌∷◌, length, get_or, Some, refl, sym, ap, ◌∙◌, subst, arith}
+-- The sums of the counts of tiers and of areas along a run.
+use Rattle.std.proofs.Common.{◌≡◌, ℕ, zero, suc, Bool, true, false, cond, not, ◌||◌, None, nat_lt, true≢false, pred, ◌+◌, ◌≤◌, ◌<◌, min, List, [], ◌∷◌, length, get_or, Some, refl, sym, inl, inr, ap, ◌∙◌, subst, arith}
 use Rattle.std.specs.Prelude.{slice_get, sum_by}
 use Rattle.std.proofs.lemmas.List.Sums.{sum_by-cons}
-use Rattle.std.proofs.lemmas.Option.{same_Some, slice_get_within, slice_get-get_or}
+use Rattle.std.proofs.lemmas.Option.{same_Some}
 use Rattle.fs_model.specs.declared.setup.Setup.{Setup}
 use Rattle.fs_model.specs.declared.event.Event.{Event}
 use Rattle.fs_model.specs.declared.reply.Line.{Line}
@@ -10,6 +10,7 @@ use Rattle.fs_model.specs.declared.reply.Reply.{Reply}
 use Rattle.fs_model.specs.declared.reply.Refusal.{Refusal}
 use Rattle.fs_model.specs.State.{State, Hands, Whole}
 use Rattle.fs_model.specs.Machine.{hands_of}
+use Rattle.fs_model.specs.Journaling.{calls_needed, fuse_serves}
 use Rattle.fs_model.specs.Faults.{Rise}
 use Rattle.fs_model.specs.Step.{Observation, WholeStep, Run}
 use Rattle.fs_model.specs.Laws.{is_caused}
@@ -18,15 +19,17 @@ use Rattle.outside.specs.declared.disk.Disk as disks
 use Rattle.outside.specs.declared.objects.Objects as objects
 use Rattle.outside.specs.declared.objects.ObjectRead as reads
 use Rattle.outside.specs.declared.objects.ObjectWrite as writes
+use Rattle.journal_disk.specs.Journaling.{area_0, area_1}
 use Rattle.cluster_core.proofs.MediaStay.{still_there}
 use Rattle.cluster_core.proofs.NodeChanges.{both_there}
 use Rattle.cluster_core.proofs.SteadyStay.{hand_rose_not, hand_waited_not}
-use Rattle.cluster_core.specs.Goes.{Rises, TierRose}
+use Rattle.cluster_core.specs.Goes.{AreaRose, Rises, TierRose}
 use Rattle.cluster_core.specs.Media.{TiersStay, MediaStays}
 use Rattle.cluster_core.specs.Steady.{IsSteady}
 use Rattle.cluster_core.specs.declared.node.Node.{Node}
 use Rattle.cluster_core.specs.declared.cluster.Core.{Core}
-use Rattle.play_run.specs.Sums.{answers, how_many, is_of_hand, is_of_tier, is_of_waits, is_tier_fault, is_wait, labels, node_total, total, NoneLast, RiseAlong, own, waits}
+use Rattle.play_run.proofs.Fuses.{WholeStep-bare}
+use Rattle.play_run.specs.Sums.{answers, areas_rose, areas_total, how_many, is_journal_fault, is_of_hand, is_of_journal, is_of_tier, is_of_waits, is_tier_fault, is_wait, labels, node_total, total, NoAreaLast, NoFuseSet, NoneLast, RiseAlong, own, waits}
 
 -- ---- answers
 
@@ -44,6 +47,13 @@ no_tier_fault S A H e rise reply none is = refl
 no_wait : (S : Setup) (A : State) (H : Hands) (e : Event) (rise : Rise) (reply : Reply) → rise.waits ≡ 0 → is_caused S A H e rise reply ≡ true → is_wait reply ≡ false
 no_wait S A H e rise Reply.NotReady none is = sym is ∙ ap (λ waits. nat_lt 0 waits) none
 no_wait S A H e rise reply none is = refl
+
+-- no fault of the journal where no area's own count rose, and there is no fuse
+no_journal_fault : (S : Setup) (A : State) (H : Hands) (e : Event) (rise : Rise) (reply : Reply) → A.master.fuse ≡ None → rise.journal ≡ 0 → is_caused S A H e rise reply ≡ true → is_journal_fault reply ≡ false
+no_journal_fault S A H e rise (Reply.Refused Refusal.JournalFault) bare none is =
+    sym is ∙ ap (λ n. nat_lt 0 n || not (fuse_serves A.master.fuse (calls_needed S A H e))) none ∙ ap (λ fuse. not (fuse_serves fuse (calls_needed S A H e))) bare
+no_journal_fault S A H e rise (Reply.Refused why) bare none is = refl
+no_journal_fault S A H e rise reply bare none is = refl
 
 -- at most one, and none where the test fails
 one : (b : Bool) → cond b 1 0 ≤ 1
@@ -128,6 +138,7 @@ module _ {S R W : Type 0} (o : objects.Ghosts S R W) where
       line_rises old new who e rise Rises.Nothing stays none = let less = total_stays old new stays in omega (arith, less)
       line_rises old new who e rise (Rises.OfHand v l u h) stays none = let less = total_stays old new stays in omega (arith, less)
       line_rises old new who e rise (Rises.OfWaits v l u h) stays none = let less = total_stays old new stays in omega (arith, less)
+      line_rises old new who e rise (Rises.OfJournal h) stays none = let less = total_stays old new stays in omega (arith, less)
 
       -- ---- a chain of cores
 
@@ -150,12 +161,14 @@ module _ {S R W : Type 0} (o : objects.Ghosts S R W) where
       line_faults old new who e rise (Rises.OfTier v t h) U A H reply is = one (is_tier_fault reply)
       line_faults old new who e rise (Rises.OfHand v l u h) U A H reply is = one (is_tier_fault reply)
       line_faults old new who e rise (Rises.OfWaits v l u h) U A H reply is = none_of (is_tier_fault reply) (no_tier_fault U A H e rise reply refl is)
+      line_faults old new who e rise (Rises.OfJournal h) U A H reply is = none_of (is_tier_fault reply) (no_tier_fault U A H e rise reply refl is)
 
       line_waits : (old new : Core D S R W d w) (who : ℕ) (e : Event) (rise : Rise) (h : Rises d o r w old new who e rise) (U : Setup) (A : State) (H : Hands) (reply : Reply) → is_caused U A H e rise reply ≡ true → cond (is_wait reply) 1 0 ≤ cond (is_of_waits d o r w old new who e rise h) 1 0
       line_waits old new who e rise Rises.Nothing U A H reply is = none_of (is_wait reply) (no_wait U A H e rise reply refl is)
       line_waits old new who e rise (Rises.OfTier v t h) U A H reply is = none_of (is_wait reply) (no_wait U A H e rise reply refl is)
       line_waits old new who e rise (Rises.OfHand v l u h) U A H reply is = none_of (is_wait reply) (no_wait U A H e rise reply refl is)
       line_waits old new who e rise (Rises.OfWaits v l u h) U A H reply is = one (is_wait reply)
+      line_waits old new who e rise (Rises.OfJournal h) U A H reply is = none_of (is_wait reply) (no_wait U A H e rise reply refl is)
 
       -- ---- a run
 
@@ -180,6 +193,71 @@ module _ {S R W : Type 0} (o : objects.Ghosts S R W) where
       run_waits U V after old (line ∷ lines) [] new along run = absurd along
 
 module _ {D S R W : Type 0} (d : disks.Ghosts D) (o : objects.Ghosts S R W) (r : reads.Ghosts R) (w : writes.Ghosts W) where
+  -- ---- areas
+
+  -- neither stood at its last value before
+  no_area_before : (old new : Core D S R W d w) → MediaStays d o old new → NoAreaLast d new → NoAreaLast d old
+  no_area_before old new stays none =
+      let less_0 = stays.areas.own_0 in
+      let less_1 = stays.areas.own_1 in
+      (omega (arith, less_0, none.0), omega (arith, less_1, none.1))
+
+  areas_stay : (old new : Core D S R W d w) → MediaStays d o old new → areas_total d old ≤ areas_total d new
+  areas_stay old new stays =
+      let less_0 = stays.areas.own_0 in
+      let less_1 = stays.areas.own_1 in
+      omega (arith, less_0, less_1)
+
+  area_rises : (old new : Core D S R W d w) → AreaRose d o r w old new → MediaStays d o old new → NoAreaLast d new → areas_total d old + 1 ≤ areas_total d new
+  area_rises old new (inl rose) stays none =
+      let up = rose_by_one (d.faults (area_0 old.master.journal)) (d.faults (area_0 new.master.journal)) _ rose none.0 in
+      let less = stays.areas.own_1 in
+      omega (arith, up, less)
+  area_rises old new (inr rose) stays none =
+      let up = rose_by_one (d.faults (area_1 old.master.journal)) (d.faults (area_1 new.master.journal)) _ rose none.1 in
+      let less = stays.areas.own_0 in
+      omega (arith, up, less)
+
+  line_areas : (old new : Core D S R W d w) (who : ℕ) (e : Event) (rise : Rise) (h : Rises d o r w old new who e rise) → MediaStays d o old new → NoAreaLast d new → areas_total d old + cond (is_of_journal d o r w old new who e rise h) 1 0 ≤ areas_total d new
+  line_areas old new who e rise (Rises.OfJournal h) stays none = area_rises old new h stays none
+  line_areas old new who e rise Rises.Nothing stays none = let less = areas_stay old new stays in omega (arith, less)
+  line_areas old new who e rise (Rises.OfTier v t h) stays none = let less = areas_stay old new stays in omega (arith, less)
+  line_areas old new who e rise (Rises.OfHand v l u h) stays none = let less = areas_stay old new stays in omega (arith, less)
+  line_areas old new who e rise (Rises.OfWaits v l u h) stays none = let less = areas_stay old new stays in omega (arith, less)
+
+  -- neither stood at its last value at the beginning, and the sum rose by one or more at each line that is counted
+  along_areas : (old : Core D S R W d w) (lines : List Line) (seen : List Observation) (new : Core D S R W d w) (along : RiseAlong d o r w old lines seen new) → NoAreaLast d new → NoAreaLast d old × (areas_total d old + areas_rose d o r w old lines seen new along ≤ areas_total d new)
+  along_areas old [] [] new along none = subst (λ (core : Core D S R W d w). NoAreaLast d core × (areas_total d core + 0 ≤ areas_total d new)) along (none, omega arith)
+  along_areas old (line ∷ lines) (x ∷ more) new along none =
+      let rest = along_areas along.0 lines more new along.4 none in
+      let first = line_areas old along.0 line.actor line.event x.rise along.1 along.2 rest.0 in
+      (no_area_before old along.0 along.2 rest.0, omega (arith, first, rest.1))
+  along_areas old [] (x ∷ more) new along none = absurd along
+  along_areas old (line ∷ lines) [] new along none = absurd along
+
+  -- a line's answer, and what rose in it
+  line_journal : (old new : Core D S R W d w) (who : ℕ) (e : Event) (rise : Rise) (h : Rises d o r w old new who e rise) (U : Setup) (A : State) (H : Hands) (reply : Reply) → A.master.fuse ≡ None → is_caused U A H e rise reply ≡ true → cond (is_journal_fault reply) 1 0 ≤ cond (is_of_journal d o r w old new who e rise h) 1 0
+  line_journal old new who e rise (Rises.OfJournal h) U A H reply bare is = one (is_journal_fault reply)
+  line_journal old new who e rise Rises.Nothing U A H reply bare is = none_of (is_journal_fault reply) (no_journal_fault U A H e rise reply bare refl is)
+  line_journal old new who e rise (Rises.OfTier v t h) U A H reply bare is = none_of (is_journal_fault reply) (no_journal_fault U A H e rise reply bare refl is)
+  line_journal old new who e rise (Rises.OfHand v l u h) U A H reply bare is = none_of (is_journal_fault reply) (no_journal_fault U A H e rise reply bare refl is)
+  line_journal old new who e rise (Rises.OfWaits v l u h) U A H reply bare is = none_of (is_journal_fault reply) (no_journal_fault U A H e rise reply bare refl is)
+
+  pub run_journal : (U : Setup) (V after : Whole) (old : Core D S R W d w) (lines : List Line) (seen : List Observation) (new : Core D S R W d w) (along : RiseAlong d o r w old lines seen new) → Run U V lines after seen → V.body.master.fuse ≡ None → NoFuseSet lines → answers is_journal_fault lines ≤ areas_rose d o r w old lines seen new along
+  run_journal U V after old [] [] new along run bare unset = omega arith
+  run_journal U V after old (line ∷ lines) (x ∷ more) new along run bare unset =
+      let s = run.1 in
+      let H = hands_of V line.actor in
+      let is = faults_have_causes U V.body s.body line.actor H s.hands line.event line.reply x.rise x.made s.step in
+      let first = line_journal old along.0 line.actor line.event x.rise along.1 U V.body H line.reply bare is in
+      let rest = run_journal U run.0 after along.0 lines more new along.4 run.2 (WholeStep-bare U V run.0 line x s (unset 0 line (omega arith)) bare) (λ k spare lt. unset (suc k) spare (omega (arith, lt))) in
+      omega (arith, first, rest, sum_by-cons (λ (l : Line). cond (is_journal_fault l.reply) 1 0) line lines)
+  run_journal U V after old [] (x ∷ more) new along run bare unset = absurd along
+  run_journal U V after old (line ∷ lines) [] new along run bare unset = absurd along
+
+  pub area_sums : (old : Core D S R W d w) (lines : List Line) (seen : List Observation) (new : Core D S R W d w) (along : RiseAlong d o r w old lines seen new) → NoAreaLast d new → areas_total d old + areas_rose d o r w old lines seen new along ≤ areas_total d new
+  area_sums old lines seen new along none = (along_areas old lines seen new along none).1
+
   -- ---- steady media
 
   no_hand : (old new : Core D S R W d w) (who : ℕ) (e : Event) (rise : Rise) (h : Rises d o r w old new who e rise) → IsSteady d o r w old → is_of_hand d o r w old new who e rise h ≡ false
@@ -187,12 +265,14 @@ module _ {D S R W : Type 0} (d : disks.Ghosts D) (o : objects.Ghosts S R W) (r :
   no_hand old new who e rise Rises.Nothing steady = refl
   no_hand old new who e rise (Rises.OfTier v t h) steady = refl
   no_hand old new who e rise (Rises.OfWaits v l u h) steady = refl
+  no_hand old new who e rise (Rises.OfJournal h) steady = refl
 
   no_waits : (old new : Core D S R W d w) (who : ℕ) (e : Event) (rise : Rise) (h : Rises d o r w old new who e rise) → IsSteady d o r w old → is_of_waits d o r w old new who e rise h ≡ false
   no_waits old new who e rise (Rises.OfWaits v l u h) steady = absurd (hand_waited_not o r w old new who v l h steady)
   no_waits old new who e rise Rises.Nothing steady = refl
   no_waits old new who e rise (Rises.OfTier v t h) steady = refl
   no_waits old new who e rise (Rises.OfHand v l u h) steady = refl
+  no_waits old new who e rise (Rises.OfJournal h) steady = refl
 
   -- no rise passes a test that none passes over steady media
   none_along : (test : (old new : Core D S R W d w) (who : ℕ) (e : Event) (rise : Rise) → Rises d o r w old new who e rise → Bool) → ((old new : Core D S R W d w) (who : ℕ) (e : Event) (rise : Rise) (h : Rises d o r w old new who e rise) → IsSteady d o r w old → test old new who e rise h ≡ false) → (old : Core D S R W d w) (lines : List Line) (seen : List Observation) (new : Core D S R W d w) (along : RiseAlong d o r w old lines seen new) → IsSteady d o r w old → how_many d o r w test old lines seen new along ≡ 0

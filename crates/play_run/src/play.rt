@@ -9,8 +9,9 @@ ghost use Rattle.outside.specs.Causes.{Rose};
 ghost use Rattle.outside.specs.Streams.{Takes};
 ghost use Rattle.script_text.specs.LineText.{line_text};
 ghost use Rattle.script_text.specs.Commands.{is_command};
-ghost use Rattle.cluster_core.specs.Begun.{MediaFit, tier_counts};
+ghost use Rattle.cluster_core.specs.Begun.{IsUnopened, MediaFit, tier_counts};
 ghost use Rattle.cluster_core.specs.Causes.{IsCaused};
+ghost use Rattle.cluster_core.specs.Crashes.{Crashes};
 ghost use Rattle.cluster_core.specs.Goes.{Steps};
 ghost use Rattle.cluster_core.specs.Media.{MediaStays};
 ghost use Rattle.cluster_core.specs.Steady.{IsSteady};
@@ -66,6 +67,7 @@ fn answer<D: Disk, O: Objects>(
     ensures steps { Steps D.Disk O.Objects O.Reader.ObjectRead O.Writer.ObjectWrite core.old core.new result.actor result.event result.reply }
     ensures media { MediaStays D.Disk O.Objects core.old core.new }
     ensures cause { IsCaused D.Disk O.Objects O.Reader.ObjectRead O.Writer.ObjectWrite core.old core.new result.actor result.event result.reply }
+    ensures crash { Crashes D.Disk core.old core.new result.actor result.event result.reply }
     ensures steady { IsSteady D.Disk O.Objects O.Reader.ObjectRead O.Writer.ObjectWrite core.old → IsSteady D.Disk O.Objects O.Reader.ObjectRead O.Writer.ObjectWrite core.new }
 {
     let reply = core.step(alloc, actor, &event);
@@ -147,12 +149,13 @@ fn play_over<D: Disk, O: Objects, S: Sink>(
     Ok(())
 }
 
-/// Plays a script over fresh areas and these media, which are as many as the setup says: does each command in turn,
-/// gives its line to the sink, and gives the media back as they are then.
+/// Plays a script over these media, which are as many as the setup says: opens a cluster over them, does each command
+/// in turn, gives its line to the sink, and gives the media back as they are then.
 ///
-/// An `Err` is `WriteFault`, where the sink failed, or want of memory. The sink has then taken a front of the lines'
-/// text, after want of memory whole lines; the media given back are those after these lines, or after one event more.
-/// Where there was no memory to open the cluster, nothing was taken, and the media are as they were.
+/// An `Err` is an end of the opening, `Setup`, `Damaged` or `JournalFault` (see `Core::open_cluster`), where nothing was
+/// taken; `WriteFault`, where the sink failed; or want of memory. After the last two the sink has taken a front of the
+/// lines' text, after want of memory whole lines; the media given back are those after these lines, or after one event
+/// more. Where no cluster was opened, stores and tiers are as they were, and the areas as the opening left them.
 pub fn play<D: Disk, O: Objects, S: Sink>(
     alloc: Global,
     setup: &Setup,
@@ -164,8 +167,9 @@ pub fn play<D: Disk, O: Objects, S: Sink>(
     requires fit { MediaFit setup.now media }
     requires commands { list_all is_command script.now ≡ true }
 
-    // The sink took the lines of the script's events, in which each fault has its cause. Over tiers that tell and hold no
-    // object they are a run of the machine, whatever state the play began with, in which each rise is one of real counts;
+    // The sink took the lines of the script's events, in which each fault has its cause, and each crash image of the areas
+    // stands for the changes so far, with or without the one in hand. Over fresh areas, and tiers that tell and hold no
+    // object, they are a run of the machine, whatever state the play began with, in which each rise is one of real counts;
     // the media given back are those of a core that stands for the state after it.
     ensures ok { OnOk result.0 (Between D.Disk O.Objects O.Reader.ObjectRead O.Writer.ObjectWrite setup.now media result.1 (λ first last. Tells D.Disk O.Objects O.Reader.ObjectRead O.Writer.ObjectWrite script.now first last (S.taken sink.old) (S.taken sink.new))) }
 
@@ -173,12 +177,14 @@ pub fn play<D: Disk, O: Objects, S: Sink>(
     ensures write { result.0 ≡ Err Stop.WriteFault → Between D.Disk O.Objects O.Reader.ObjectRead O.Writer.ObjectWrite setup.now media result.1 (λ first last. TellsPartly D.Disk O.Objects O.Reader.ObjectRead O.Writer.ObjectWrite script.now first last (S.taken sink.old) (S.taken sink.new)) }
     ensures cause { result.0 ≡ Err Stop.WriteFault → Rose (S.faults sink.old) (S.faults sink.new) }
 
-    // Where memory runs out nothing began, or it took the lines of the first commands.
-    ensures memory { result.0 ≡ Err Stop.Memory → ((result.1 ≡ media) × (sink.new ≡ sink.old)) ⊎ Between D.Disk O.Objects O.Reader.ObjectRead O.Writer.ObjectWrite setup.now media result.1 (λ first last. TellsFront D.Disk O.Objects O.Reader.ObjectRead O.Writer.ObjectWrite script.now first last (S.taken sink.old) (S.taken sink.new)) }
+    // Where memory runs out no cluster was opened, or it took the lines of the first commands.
+    ensures memory { result.0 ≡ Err Stop.Memory → (IsUnopened D.Disk setup.now media result.1 Stop.Memory × (sink.new ≡ sink.old)) ⊎ Between D.Disk O.Objects O.Reader.ObjectRead O.Writer.ObjectWrite setup.now media result.1 (λ first last. TellsFront D.Disk O.Objects O.Reader.ObjectRead O.Writer.ObjectWrite script.now first last (S.taken sink.old) (S.taken sink.new)) }
 
-    ensures ends { IfErr result.0 (λ why. (why ≡ Stop.Memory) ⊎ (why ≡ Stop.WriteFault)) }
+    // Any other end is one of the opening: no cluster was opened, for a cause, and nothing was taken.
+    ensures unopened { IfErr result.0 (λ why. (why ≡ Stop.WriteFault → ⊥) → (why ≡ Stop.Memory → ⊥) → IsUnopened D.Disk setup.now media result.1 why × (sink.new ≡ sink.old)) }
+
+    ensures never { result.0 ≡ Err Stop.OpenFault → ⊥ }
     ensures later { S.faults sink.old ≤ S.faults sink.new }
-    ensures areas { result.1.areas ≡ media.areas }
     ensures stores { length result.1.stores.items ≡ length media.stores.items }
     ensures tiers { tier_counts result.1.tiers.items ≡ tier_counts media.tiers.items }
 {

@@ -4,6 +4,7 @@ ghost use Rattle.std.specs.Prelude.{◌≡◌, ◌∷◌, ◌≤◌, [], true, I
 ghost use Rattle.fs_model.specs.Spelled.{is_setup};
 ghost use Rattle.cluster_core.specs.Begun.{tier_counts};
 
+mod areas;
 mod failing;
 mod memory;
 mod reading;
@@ -73,8 +74,12 @@ fn empty_area(alloc: Global) -> Fused<MemDisk> {
     Fused::new(MemDisk::new(Vec::new(alloc)))
 }
 
-/// The media for that configuration, with this first tier of worker 1.
-fn media(alloc: Global, first: MemObjects) -> Result<Media<MemDisk, MemObjects>, AllocError>
+/// The media for that configuration, with these areas and this first tier of worker 1.
+fn media(
+    alloc: Global,
+    areas: (Fused<MemDisk>, Fused<MemDisk>),
+    first: MemObjects,
+) -> Result<Media<MemDisk, MemObjects>, AllocError>
     ensures stores { IfOk result (λ media. length media.stores.items ≡ 2) }
     ensures tiers { IfOk result (λ media. tier_counts media.tiers.items ≡ 2 ∷ 1 ∷ []) }
 {
@@ -82,7 +87,7 @@ fn media(alloc: Global, first: MemObjects) -> Result<Media<MemDisk, MemObjects>,
     tiers.push(two(alloc, first)?)?;
     tiers.push(one(alloc)?)?;
     Ok(Media {
-        areas: (empty_area(alloc), empty_area(alloc)),
+        areas,
         stores: two(alloc, MemObjects::new(alloc))?,
         tiers,
     })
@@ -96,12 +101,13 @@ struct Outcome {
     media: Media<MemDisk, MemObjects>,
 }
 
-/// Plays a script over that configuration with areas of so many bytes, with this first tier of worker 1, to this sink.
-/// An `Err` came before the play.
-fn played(
+/// Plays a script over that configuration with these areas, of so many bytes at most, with this first tier of worker 1,
+/// to this sink. An `Err` came before the play.
+fn played_over(
     alloc: Global,
     area: u64,
     script: &[u8],
+    areas: (Fused<MemDisk>, Fused<MemDisk>),
     first: MemObjects,
     mut sink: MemSink,
 ) -> Result<Outcome, ScriptFault>
@@ -110,9 +116,24 @@ fn played(
 {
     let script = read_script(alloc, script)?;
     let setup = setup(alloc, area)?;
-    let media = media(alloc, first)?;
+    let media = media(alloc, areas, first)?;
     let (end, media) = play(alloc, &setup, &script, media, &mut sink);
     Ok(Outcome { end, sink, media })
+}
+
+/// The same over empty areas.
+fn played(
+    alloc: Global,
+    area: u64,
+    script: &[u8],
+    first: MemObjects,
+    sink: MemSink,
+) -> Result<Outcome, ScriptFault>
+    requires least { 64 ≤ area }
+    requires most { area ≤ 1073741824 }
+{
+    let areas = (empty_area(alloc), empty_area(alloc));
+    played_over(alloc, area, script, areas, first, sink)
 }
 
 /// A line without its reply.

@@ -1,5 +1,5 @@
 -- The canonical text of commands spells them.
-use Rattle.std.proofs.Common.{◌≡◌, ℕ, suc, ◌+◌, ◌^◌, ◌<◌, ◌≤◌, true, List, [], ◌∷◌, ◌++◌, map, length, codes, Some, Ok, decimal, refl, sym, ap, ◌∙◌, subst, arith, leb-true, le-leb, append-nil, length-append}
+use Rattle.std.proofs.Common.{◌≡◌, ℕ, suc, ◌+◌, ◌^◌, ◌<◌, ◌≤◌, true, List, [], ◌∷◌, ◌++◌, map, length, codes, Some, Ok, decimal, refl, sym, ap, ◌∙◌, subst, arith, leb-true, ltb-true, le-leb, append-nil, length-append}
 use Rattle.std.proofs.lemmas.Bool.Decides.{nat_tests}
 use Rattle.std.proofs.lemmas.Fmt.{length-decimal-le}
 use Rattle.std.proofs.lemmas.List.Folds.{list_all-append}
@@ -109,6 +109,10 @@ event_spelled (Event.Poll l limit) built h =
       words = within _ 131200 _ (omega arith) (word_before 4 _ (codes "poll") _ refl (omega arith) (label_before _ l _ parts.0 (number_before 0 limit [] (omega arith) no_words)));
     }
 event_spelled (Event.Close l) built h = record { spelled = refl; words = verb_label (codes "close") l h refl (omega arith) }
+event_spelled Event.Checkpoint built h = record { spelled = refl; words = within _ 131200 _ (omega arith) (word_before 10 _ (codes "checkpoint") _ refl (omega arith) no_words) }
+event_spelled (Event.Fuse calls) built h =
+    let below = ltb-true calls (2 ^ 63) h in
+    record { spelled = refl; words = within _ 131200 _ (omega arith) (word_before 4 _ (codes "fuse") _ refl (omega arith) (number_before 0 calls [] (omega arith) no_words)) }
 event_spelled _ built h = cc
 
 -- what the words of a verb that can be spelled are

@@ -1,8 +1,8 @@
 -- The words of events.
-use Rattle.std.proofs.Common.{◌≡◌, ℕ, Bool, true, false, cond, List, [], ◌∷◌, codes, Option, Some, option_map, refl, sym, ap, ◌∙◌, subst, arith}
+use Rattle.std.proofs.Common.{◌≡◌, ℕ, ◌-◌, ◌^◌, Bool, true, false, cond, List, [], ◌∷◌, codes, Option, Some, option_map, refl, sym, ap, ◌∙◌, subst, arith}
 use Rattle.std.specs.Result.{result_ok}
 use Rattle.std.specs.Str.{bytes_eq}
-use Rattle.std.proofs.lemmas.Bool.{cond-true, leb-true, le-leb}
+use Rattle.std.proofs.lemmas.Bool.{cond-true, leb-true, le-leb, ltb-true, lt-ltb}
 use Rattle.std.proofs.lemmas.Slice.Eq.{bytes_eq-Decides}
 use Rattle.percent_encoding.specs.Percent.{percent_decode}
 use Rattle.fs_model.specs.PathForm.{is_label}
@@ -12,7 +12,7 @@ use Rattle.fs_model.specs.declared.event.WriteType.{WriteType}
 use Rattle.fs_model.specs.declared.event.ReadType.{ReadType}
 use Rattle.fs_model.proofs.Grammar.{read_found, read_again}
 use Rattle.script_text.specs.ScriptForm.{SpellsPath, SpellsEvent}
-use Rattle.script_text.specs.EventText.{Reader, number_of, label_of, path_of, write_type_of, read_type_of, fill_of, only_path, only_label, mkdir_of, create_of, list_of, stat_of, room_of, put_of, finish_of, open_of, next_of, poll_of, close_of, readers, read_by, event_of}
+use Rattle.script_text.specs.EventText.{Reader, number_of, label_of, path_of, write_type_of, read_type_of, fill_of, only_path, only_label, mkdir_of, create_of, list_of, stat_of, room_of, put_of, finish_of, open_of, next_of, poll_of, close_of, checkpoint_of, fuse_of, readers, read_by, event_of}
 use Rattle.script_text.proofs.Bools.{both_true, and_true}
 use Rattle.script_text.proofs.Options.{and_then_some, map_some, ok_of, let_through}
 use Rattle.script_text.proofs.Numbers.{number_found, number_again}
@@ -148,6 +148,24 @@ poll_right (label ∷ limit ∷ []) e h =
     (refl, and_true _ _ is_label.0 (and_true _ _ (le-leb 1 n.0 is_limit.from_least) (le-leb n.0 65536 is_limit.to_most)), words)
 poll_right _ e h = cc
 
+checkpoint_right : IsRight (codes "checkpoint") checkpoint_of
+unfolding checkpoint_of
+checkpoint_right [] e h =
+    let made : Event.Checkpoint ≡ e = cc (h) in
+    subst (λ x. SpellsEvent x (codes "checkpoint" ∷ [])) made (refl, refl, refl)
+checkpoint_right (word ∷ more) e h = cc
+
+fuse_right : IsRight (codes "fuse") fuse_of
+unfolding fuse_of
+fuse_right (calls ∷ []) e h =
+    let n = and_then_some _ (number_of 0 (2 ^ 63 - 1) calls) e h in
+    let is_calls = number_found 0 (2 ^ 63 - 1) calls n.0 (omega arith) n.1 in
+    let most = is_calls.to_most in
+    let made : Event.Fuse n.0 ≡ e = cc (n.2) in
+    subst (λ x. SpellsEvent x (codes "fuse" ∷ calls ∷ [])) made
+    (refl, lt-ltb n.0 (2 ^ 63) (omega arith), ap (λ x. codes "fuse" ∷ x ∷ []) is_calls.word_is)
+fuse_right _ e h = cc
+
 -- each of these readers is right
 abbrev AreRight : List Reader → Type 0
 AreRight [] = Unit {0}
@@ -162,7 +180,7 @@ by_right (r ∷ rs) right verb words e h = by_name (bytes_eq verb r.0) (bytes_eq
     by_name false is others h = others h
 
 all_right : AreRight readers
-all_right = (mkdir_right, (create_right, (list_right, (stat_right, (room_right, (put_right, (finish_right, (open_right, (next_right, (poll_right, (close_right, tt)))))))))))
+all_right = (mkdir_right, (create_right, (list_right, (stat_right, (room_right, (put_right, (finish_right, (open_right, (next_right, (poll_right, (close_right, (checkpoint_right, (fuse_right, tt)))))))))))))
 
 -- what is read spells the event
 pub event_found : (words : List (List ℕ)) (e : Event) → event_of words ≡ Some e → SpellsEvent e words
@@ -190,7 +208,7 @@ no_cache_again = refl
 
 -- what spells an event is read as it
 pub event_again : (e : Event) (words : List (List ℕ)) → SpellsEvent e words → event_of words ≡ Some e
-unfolding event_of only_path only_label mkdir_of create_of list_of stat_of room_of put_of finish_of open_of next_of poll_of close_of
+unfolding event_of only_path only_label mkdir_of create_of list_of stat_of room_of put_of finish_of open_of next_of poll_of close_of checkpoint_of fuse_of
 event_again (Event.Mkdir p) words h = ap event_of h.2.1 ∙ rw (path_again h.2.0 p h.2.2) refl
 event_again (Event.Create l p WriteType.MustCache w) words h =
     let parts = both_true _ _ h.1 in
@@ -214,4 +232,8 @@ event_again (Event.Poll l limit) words h =
     let bounds = both_true _ _ parts.1 in
     ap event_of h.2 ∙ rw (label_again l parts.0, number_again 1 65536 limit (leb-true 1 limit bounds.0) (leb-true limit 65536 bounds.1) (omega arith)) refl
 event_again (Event.Close l) words h = ap event_of h.2 ∙ rw (label_again l h.1) refl
+event_again Event.Checkpoint words h = ap event_of h.2
+event_again (Event.Fuse calls) words h =
+    let below = ltb-true calls (2 ^ 63) h.1 in
+    ap event_of h.2 ∙ rw (number_again 0 (2 ^ 63 - 1) calls (omega arith) (omega arith) (omega arith)) refl
 event_again _ words h = let built = h.0 in cc

@@ -143,6 +143,18 @@ poll_of _ = None
 unfoldable pub close_of : List (List ℕ) → Option Event
 close_of words = option_map (λ l. Event.Close l) (only_label words)
 
+-- `checkpoint`
+unfoldable pub checkpoint_of : List (List ℕ) → Option Event
+checkpoint_of [] = Some Event.Checkpoint
+checkpoint_of _ = None
+
+-- `fuse K`
+unfoldable pub fuse_of : List (List ℕ) → Option Event
+fuse_of (calls ∷ []) = do
+  n ← number_of 0 (2 ^ 63 - 1) calls
+  Some (Event.Fuse n)
+fuse_of _ = None
+
 -- ---- events, by their first word
 
 -- a first word, and how the words behind it are read
@@ -153,7 +165,8 @@ Reader = List ℕ × (List (List ℕ) → Option Event)
 abbrev pub readers : List Reader
 readers =
     (codes "mkdir", mkdir_of) ∷ (codes "create", create_of) ∷ (codes "ls", list_of) ∷ (codes "stat", stat_of) ∷ (codes "room", room_of) ∷ (codes "put", put_of)
-    ∷ (codes "done", finish_of) ∷ (codes "open", open_of) ∷ (codes "next", next_of) ∷ (codes "poll", poll_of) ∷ (codes "close", close_of) ∷ []
+    ∷ (codes "done", finish_of) ∷ (codes "open", open_of) ∷ (codes "next", next_of) ∷ (codes "poll", poll_of) ∷ (codes "close", close_of)
+    ∷ (codes "checkpoint", checkpoint_of) ∷ (codes "fuse", fuse_of) ∷ []
 
 -- what the reader of this first word says
 abbrev pub read_by : List Reader → List ℕ → List (List ℕ) → Option Event

@@ -51,6 +51,8 @@ IsWordsOf (Event.OpenFile label path kind worker) words = WithPath (λ p. codes 
 IsWordsOf (Event.Next label) words = words ≡ codes "next" ∷ label ∷ []
 IsWordsOf (Event.Poll label limit) words = words ≡ codes "poll" ∷ label ∷ decimal limit ∷ []
 IsWordsOf (Event.Close label) words = words ≡ codes "close" ∷ label ∷ []
+IsWordsOf Event.Checkpoint words = words ≡ codes "checkpoint" ∷ []
+IsWordsOf (Event.Fuse calls) words = words ≡ codes "fuse" ∷ decimal calls ∷ []
 IsWordsOf _ words = ⊥
 
 -- the words that stand for an event: it is built, and its parts are what a script can spell

@@ -3,7 +3,7 @@
 
 ghost use Rattle.std.specs.Prelude.{◌≡◌, IfOk};
 ghost use Rattle.fs_model.specs.PathText.{slices};
-ghost use Rattle.script_text.specs.EventText.{only_path, only_label, mkdir_of, create_of, list_of, stat_of, room_of, put_of, finish_of, open_of, next_of, poll_of, close_of, event_of};
+ghost use Rattle.script_text.specs.EventText.{only_path, only_label, mkdir_of, create_of, list_of, stat_of, room_of, put_of, finish_of, open_of, next_of, poll_of, close_of, checkpoint_of, fuse_of, event_of};
 
 use crate::argument::{fill_of, label_of, number_of, path_of, read_type_of, write_type_of};
 use fs_model::event::Event;
@@ -11,6 +11,9 @@ use fs_model::label::Label;
 use fs_model::numbers::WorkerNo;
 use fs_model::path::Path;
 use std::alloc::{AllocError, Global};
+
+/// The greatest number of calls that a fuse may let pass.
+const MOST_CALLS: u64 = (1 << 63) - 1;
 
 /// The path that the only word stands for.
 #[tactic(auto, unfolding(crate::specs::EventText::only_path))]
@@ -183,6 +186,29 @@ fn close_of(alloc: Global, words: &[&[u8]]) -> Result<Option<Event>, AllocError>
     Ok(only_label(alloc, words)?.map(|label| Event::Close { label }))
 }
 
+/// `checkpoint`.
+#[tactic(auto, unfolding(crate::specs::EventText::checkpoint_of))]
+fn checkpoint_of(words: &[&[u8]]) -> Option<Event>
+    ensures { result ≡ checkpoint_of (slices words.now) }
+{
+    match words {
+        [] => Some(Event::Checkpoint),
+        _ => None,
+    }
+}
+
+/// `fuse K`.
+#[tactic(auto, unfolding(crate::specs::EventText::fuse_of))]
+fn fuse_of(words: &[&[u8]]) -> Option<Event>
+    ensures { result ≡ fuse_of (slices words.now) }
+{
+    let [calls] = words else {
+        return None;
+    };
+    let calls = number_of(calls, 0, MOST_CALLS)?;
+    Some(Event::Fuse { calls })
+}
+
 /// The event of these words.
 #[tactic(auto, unfolding(crate::specs::EventText::event_of))]
 pub fn event_of(alloc: Global, words: &[&[u8]]) -> Result<Option<Event>, AllocError>
@@ -223,6 +249,12 @@ pub fn event_of(alloc: Global, words: &[&[u8]]) -> Result<Option<Event>, AllocEr
     }
     if *verb == b"close".as_slice() {
         return close_of(alloc, words);
+    }
+    if *verb == b"checkpoint".as_slice() {
+        return Ok(checkpoint_of(words));
+    }
+    if *verb == b"fuse".as_slice() {
+        return Ok(fuse_of(words));
     }
     Ok(None)
 }

@@ -136,6 +136,39 @@ fn bad_events_are_named(rt: HostRuntime) {
     }
 }
 
+#[test]
+fn bad_events_of_the_journal_are_named(rt: HostRuntime) {
+    let cases = [
+        b"1 checkpoint ".as_slice(),
+        b"1 checkpoint x",
+        b"1 checkpoint 1",
+        b"1 check",
+        b"1 CHECKPOINT",
+        b"1 fuse",
+        b"1 fuse ",
+        b"1 fuse x",
+        b"1 fuse 1 1",
+        b"1 fuse -1",
+        b"1 fuse +1",
+        b"1 fuse 01",
+        b"1 fuse 00",
+        b"1 fuse 0x1",
+        b"1 fuse 1.0",
+        b"1 fuse 1_000",
+        b"1 fuse 9223372036854775808",
+        b"1 fuse 18446744073709551615",
+        b"1 fuse 18446744073709551616",
+        b"1 fuse 18446744073709551617",
+        b"1 fuse 100000000000000000000000000000000000000000",
+        b"1 fuse f 1",
+        b"1 restart",
+    ];
+    for text in cases {
+        let fault = read_script(rt.alloc(), text).err();
+        assert_eq!(rt; fault, Some(ScriptFault::BadLine(1)), "at {text:?}");
+    }
+}
+
 /// The line of a command of one event, with the reply `done` and actor 1.
 fn told(alloc: Global, command: &Command) -> Result<Vec<u8>, Fail> {
     match &command.verb {
@@ -181,6 +214,14 @@ fn events_are_read(rt: HostRuntime) -> Result<(), Fail> {
         (b"1 poll r 1", b"1 poll r 1 -> done\n"),
         (b"1 poll r 65536", b"1 poll r 65536 -> done\n"),
         (b"1 close r", b"1 close r -> done\n"),
+        (b"1 checkpoint", b"1 checkpoint -> done\n"),
+        (b"1 checkpoint\n", b"1 checkpoint -> done\n"),
+        (b"1 fuse 0", b"1 fuse 0 -> done\n"),
+        (b"1 fuse 3\n", b"1 fuse 3 -> done\n"),
+        (
+            b"1 fuse 9223372036854775807",
+            b"1 fuse 9223372036854775807 -> done\n",
+        ),
     ];
     for (text, line) in cases {
         let script = read_script(alloc, text)?;
@@ -403,6 +444,8 @@ fn event_at(place: usize, label: Label, path: Path) -> Event {
                 len: 3_392,
             },
         },
+        6 => Event::Checkpoint,
+        7 => Event::Fuse { calls: u64::MAX },
         _ => Event::Shift {
             label,
             worker: WorkerNo(1),
@@ -428,6 +471,8 @@ fn events_are_written(rt: HostRuntime) -> Result<(), Fail> {
         b"1 create f /a%20b/%C3%A9 MUST_CACHE 1 -> done\n",
         b"1 open f /a%20b/%C3%A9 NO_CACHE 0 -> done\n",
         b"1 put f g:7:65536:3392 -> done\n",
+        b"1 checkpoint -> done\n",
+        b"1 fuse 18446744073709551615 -> done\n",
         b"1 move f 1 /a%20b/%C3%A9 0 1 -> done\n",
     ];
     for (place, text) in texts.iter().enumerate() {

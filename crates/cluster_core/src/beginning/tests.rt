@@ -1,5 +1,7 @@
 //! What a core over tiers in memory answers, from its opening to its end.
 
+mod journaling;
+
 ghost use Rattle.std.specs.Prelude.{◌≡◌, ◌∷◌, [], true, IfOk, length};
 ghost use Rattle.fs_model.specs.Spelled.{is_actor, is_setup};
 ghost use Rattle.cluster_core.specs.Begun.{tier_counts};
@@ -12,6 +14,7 @@ use fs_model::numbers::{Actor, WorkerNo};
 use fs_model::path::Path;
 use fs_model::reply::{Refusal, Reply, Which};
 use fs_model::setup::Setup;
+use fs_model::stop::Stop;
 use outside::fused::Fused;
 use outside::media::Media;
 use outside_mem::{MemDisk, MemObjects, MemReader, MemWriter};
@@ -19,6 +22,9 @@ use std::alloc::{AllocError, Global};
 use std::test::Fail;
 
 type MemCore = Core<MemDisk, MemObjects, MemReader, MemWriter>;
+
+/// Media in memory.
+type MemMedia = Media<MemDisk, MemObjects>;
 
 /// A configuration with blocks of 4 bytes, worker 1 with tiers of 8 and 8 bytes, and worker 2 with one of 8.
 fn setup(alloc: Global) -> Result<Setup, AllocError>
@@ -57,14 +63,14 @@ fn two(alloc: Global) -> Result<Vec<MemObjects>, AllocError>
     Ok(stores)
 }
 
-/// An area in memory that holds this text, with no fuse.
-fn area(alloc: Global, text: &str) -> Result<Fused<MemDisk>, AllocError> {
-    let bytes = Vec::from_slice(alloc, text.as_bytes())?;
+/// An area in memory that holds these bytes, with no fuse.
+fn area(alloc: Global, bytes: &[u8]) -> Result<Fused<MemDisk>, AllocError> {
+    let bytes = Vec::from_slice(alloc, bytes)?;
     Ok(Fused::new(MemDisk::new(bytes)))
 }
 
-/// The media for that configuration; its areas hold a text each.
-fn media(alloc: Global) -> Result<Media<MemDisk, MemObjects>, AllocError>
+/// The media for that configuration, with empty stores and tiers; its areas hold these bytes.
+fn media(alloc: Global, first: &[u8], second: &[u8]) -> Result<MemMedia, AllocError>
     ensures stores { IfOk result (λ media. length media.stores.items ≡ 1) }
     ensures tiers { IfOk result (λ media. tier_counts media.tiers.items ≡ 2 ∷ 1 ∷ []) }
 {
@@ -72,20 +78,34 @@ fn media(alloc: Global) -> Result<Media<MemDisk, MemObjects>, AllocError>
     tiers.push(two(alloc)?)?;
     tiers.push(one(alloc)?)?;
     Ok(Media {
-        areas: (area(alloc, "first")?, area(alloc, "second")?),
+        areas: (area(alloc, first)?, area(alloc, second)?),
         stores: one(alloc)?,
         tiers,
     })
 }
 
-/// A core over that configuration.
-fn opened(alloc: Global) -> Result<MemCore, AllocError> {
+/// What comes of an opening in that configuration, over areas with these bytes.
+fn opening(
+    alloc: Global,
+    first: &[u8],
+    second: &[u8],
+) -> Result<Result<MemCore, (Stop, MemMedia)>, AllocError> {
     let setup = setup(alloc)?;
-    let media = media(alloc)?;
-    match Core::open_cluster(alloc, &setup, media) {
+    let media = media(alloc, first, second)?;
+    Ok(Core::open_cluster(alloc, &setup, media))
+}
+
+/// A core in that configuration, over areas with these bytes.
+fn opened_over(alloc: Global, first: &[u8], second: &[u8]) -> Result<MemCore, AllocError> {
+    match opening(alloc, first, second)? {
         Ok(core) => Ok(core),
         Err(_) => Err(AllocError),
     }
+}
+
+/// A core in that configuration, over empty areas.
+fn opened(alloc: Global) -> Result<MemCore, AllocError> {
+    opened_over(alloc, b"", b"")
 }
 
 /// A letter for a refusal.
@@ -100,6 +120,9 @@ fn refusal_letter(refusal: Refusal) -> u8 {
         Refusal::NoRoom(_) => b'f',
         Refusal::BadLabel => b'b',
         Refusal::Limit(Which::Labels) => b'x',
+        Refusal::Limit(Which::Area) => b'a',
+        Refusal::JournalFault => b'j',
+        Refusal::Stopped => b'!',
         Refusal::Memory => b'm',
         _ => b'?',
     }
@@ -139,7 +162,7 @@ fn actor_of(second: bool) -> Actor
 /// An event on a path: `/` makes a directory, `l` lists one, and any other sign shows what is there.
 fn on_path(core: &mut MemCore, alloc: Global, sign: u8, path: &Path) -> Reply {
     match sign {
-        b'/' => core.mkdir(alloc, Actor(1), path),
+        b'/' => core.mkdir(Actor(1), path),
         b'l' => core.list(alloc, Actor(1), path),
         _ => core.stat(Actor(1), path),
     }
@@ -169,7 +192,7 @@ fn make(
     if worker == 0 {
         return b'?';
     }
-    letter(core.create(alloc, actor_of(second), label, path, WorkerNo(worker)))
+    letter(core.create(actor_of(second), label, path, WorkerNo(worker)))
 }
 
 /// The letter of a file made by an actor, of which the label and the path are texts.
@@ -220,7 +243,7 @@ fn open(core: &mut MemCore, alloc: Global, name: &str, path: &str) -> Result<u8,
 }
 
 /// How many stores, workers and tiers of worker 1 there are.
-fn counts(media: &Media<MemDisk, MemObjects>) -> (usize, usize, usize) {
+fn counts(media: &MemMedia) -> (usize, usize, usize) {
     let first = match media.tiers.first() {
         None => 0,
         Some(tiers) => tiers.len(),
@@ -229,7 +252,7 @@ fn counts(media: &Media<MemDisk, MemObjects>) -> (usize, usize, usize) {
 }
 
 /// What the areas hold.
-fn held_in(media: Media<MemDisk, MemObjects>) -> (Vec<u8>, Vec<u8>) {
+fn held_in(media: MemMedia) -> (Vec<u8>, Vec<u8>) {
     let (first, second) = media.areas;
     (
         first.into_disk().into_bytes(),
@@ -386,7 +409,7 @@ fn a_cluster_that_is_closed_gives_its_media_back(rt: HostRuntime) -> Result<(), 
     let media = core.close();
     assert_eq!(rt; counts(&media), (1, 2, 2));
     let (first, second) = held_in(media);
-    assert_eq!(rt; first.as_slice(), b"first".as_slice());
-    assert_eq!(rt; second.as_slice(), b"second".as_slice());
+    assert_eq!(rt; first.first(), Some(&1));
+    assert_eq!(rt; second.len(), 0);
     Ok(())
 }

@@ -122,23 +122,16 @@ fn are_untouched(stores: &[MemObjects], count: usize) -> bool {
     stores.len() == count && stores.iter().all(is_untouched)
 }
 
-/// Whether an area has no fuse, was never written to, and holds nothing.
-fn is_empty(area: Fused<MemDisk>) -> bool {
-    let is_free = area.left().is_none();
-    let disk = area.into_disk();
-    is_free && disk.clock() == 0 && disk.bytes().is_empty()
+/// How many bytes an area holds.
+fn len_of(area: Fused<MemDisk>) -> usize {
+    area.into_disk().bytes().len()
 }
 
-/// Whether both areas are so.
-fn areas_are_empty(media: Media<MemDisk, MemObjects>) -> bool {
-    let Media {
-        areas,
-        stores: _stores,
-        tiers: _tiers,
-    } = media;
-    let (first, second) = areas;
-    let is_first = is_empty(first);
-    is_empty(second) && is_first
+/// How many bytes either area holds.
+fn area_lens(media: Media<MemDisk, MemObjects>) -> (usize, usize) {
+    let Media { areas, .. } = media;
+    let (a, b) = areas;
+    (len_of(a), len_of(b))
 }
 
 /// Whether there are both stores and each tier, of which the first tier alone was called.
@@ -191,18 +184,20 @@ fn the_media_come_back_with_the_blocks(rt: HostRuntime) -> Result<(), Fail> {
     assert_eq!(rt; asked(tier), [2, 2, 0]);
     assert_eq!(rt; (tier.changes, tier.faults, tier.misses), (2, 0, 0));
     assert!(rt; holds_both(tier, "abcd", "ef"));
-    assert!(rt; areas_are_empty(outcome.media));
+    // Behind the first checkpoint there are a file and its end.
+    assert_eq!(rt; area_lens(outcome.media), (104, 0));
     Ok(())
 }
 
 #[test]
-fn a_script_without_an_event_leaves_all(rt: HostRuntime) -> Result<(), Fail> {
+fn a_script_without_an_event_opens_alone(rt: HostRuntime) -> Result<(), Fail> {
     let alloc = rt.alloc();
     let outcome = left_at(alloc, "", sink(alloc, 1, 1)?)?;
     assert!(rt; outcome.end == Ok(()));
     assert_eq!(rt; outcome.sink.calls, 0);
     assert!(rt; is_whole(&outcome.media));
     assert_eq!(rt; asked_first(&outcome), [0, 0, 0]);
-    assert!(rt; areas_are_empty(outcome.media));
+    // The first checkpoint was made.
+    assert_eq!(rt; area_lens(outcome.media), (55, 0));
     Ok(())
 }

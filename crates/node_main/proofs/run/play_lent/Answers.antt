@@ -1,6 +1,6 @@
-use Rattle.std.proofs.Common.{◌∙◌, sym, ap, inl, inr, subst}
-use Rattle.node_main.specs.Ends.{IsHeld, media_names}
-use Rattle.node_main.proofs.Playing.{at_some, on_ok, stop_memory, stop_write}
+use Rattle.std.proofs.Common.{◌≡◌, ◌∙◌, sym, ap, inl, inr}
+use Rattle.node_main.specs.Ends.{GivesUp, media_names}
+use Rattle.node_main.proofs.Playing.{at_some, no_open, of_stop, on_err, on_ok, stop_memory, stop_write}
 use Rattle.node_main.proofs.run.play_lent.Goals as goal
 
 pub returns-in-Ok-clause-done : goal.returns-in-Ok-clause-done
@@ -29,6 +29,19 @@ returns-in-Err-clause-memory g c = λ h.
     let told = at_some _ media_names _ lent c.give_back.ensures.told in
     let areas = at_some _ media_names _ lent c.give_back.ensures.areas in
     rw c.give_back.ensures.output (elim (c.play_out-played.ensures.memory (rw stop at c.in-Err.is)) [
-      | inl same ↦ inl (ap (λ out. g.W.Out.Sink.taken out) same.1, subst (λ m. IsHeld g.W.Area.Disk g.W.Store.Objects g.W.Store.Reader.ObjectRead g.W.Store.Writer.ObjectWrite (g.W.World.shelf c.give_back.new.self, g.W.World.areas c.give_back.new.self) m) same.0 (record { shape = c.play_out-played.ensures.shape; each = told; areas = areas }))
+      | inl same ↦ inl (ap (λ out. g.W.Out.Sink.taken out) same.1, record { back = c.play_out-played.result.1; held = record { shape = c.play_out-played.ensures.shape; each = told; areas = areas }; unopened = same.0 })
       | inr front ↦ inr (record { back = c.play_out-played.result.1; held = record { shape = c.play_out-played.ensures.shape; each = told; areas = areas }; between = front })
     ])
+
+pub returns-in-Err-clause-ends : goal.returns-in-Err-clause-ends
+returns-in-Err-clause-ends g c =
+    let lent = c.play_out-played.ensures.lent ∙ c.requires.lent in
+    let told = at_some _ media_names _ lent c.give_back.ensures.told in
+    let areas = at_some _ media_names _ lent c.give_back.ensures.areas in
+    rw (c.end_of_stop.ensures, c.give_back.ensures.output)
+    (of_stop (λ why. GivesUp g.W.Area.Disk g.W.Store.Objects g.W.Store.Reader.ObjectRead g.W.Store.Writer.ObjectWrite c.args.setup.now (g.W.World.shelf c.give_back.new.self, g.W.World.areas c.give_back.new.self) why c.args.media × (g.W.World.output c.play_out-played.new.world ≡ g.W.World.output c.args.world.now)) c.in-Err.stop (λ e. c.play_out-played.ensures.never (rw e at c.in-Err.is)) (λ write memory.
+    let failed = on_err c.play_out-played.result.0 _ _ c.in-Err.is c.play_out-played.ensures.unopened write memory in
+    (record { back = c.play_out-played.result.1; held = record { shape = c.play_out-played.ensures.shape; each = told; areas = areas }; unopened = failed.0 }, failed.1)))
+
+pub returns-in-Err-clause-never : goal.returns-in-Err-clause-never
+returns-in-Err-clause-never g c = λ h. no_open c.in-Err.stop (λ e. c.play_out-played.ensures.never (rw e at c.in-Err.is)) (sym c.end_of_stop.ensures ∙ h)

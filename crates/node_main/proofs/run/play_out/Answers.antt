@@ -8,3 +8,9 @@ returns-clause-partly g c = λ h. rw (g.met.W.World.output_set c.args.world.now 
 
 pub returns-clause-memory : goal.returns-clause-memory
 returns-clause-memory g c = λ h. rw (g.met.W.World.output_set c.args.world.now c.play.new.sink) (rw c.out.ensures.value at c.play.ensures.memory h)
+
+pub returns-clause-unopened : goal.returns-clause-unopened
+returns-clause-unopened g c = rw (g.met.W.World.output_set c.args.world.now c.play.new.sink) (rw c.out.ensures.value at c.play.ensures.unopened)
+
+pub returns-clause-write : goal.returns-clause-write
+returns-clause-write g c = λ h. rw (g.met.W.World.output_set c.args.world.now c.play.new.sink) (rw c.out.ensures.value at c.play.ensures.cause h)

@@ -2,7 +2,7 @@ use Rattle.std.proofs.Common.{◌≡◌, true, refl, sym, arith, subst, ◌∙�
 use Rattle.std.proofs.lemmas.Result.{err_from_is_err_and}
 use Rattle.std.specs.List.{list_all}
 use Rattle.script_text.specs.Commands.{is_command}
-use Rattle.cluster_core.proofs.MediaStay.{media_same, media_then}
+use Rattle.cluster_core.proofs.MediaStay.{areas_same, media_same, media_then}
 use Rattle.play_run.specs.Play.{Tells, TellsFront, TellsPartly}
 use Rattle.play_run.proofs.Runs.{all_there, begins, goes_on, in_front, next_command, partly, take_all, untold}
 use Rattle.play_run.proofs.play.play_over.Goals as goal
@@ -10,7 +10,7 @@ use Rattle.play_run.proofs.play.play_over.Goals as goal
 pub loop-command-init : goal.loop-command-init
 loop-command-init g c = record {
   told = begins g.D.Disk g.O.Objects g.O.Reader.ObjectRead g.O.Writer.ObjectWrite c.args.core.now _;
-  media = media_same g.O.Objects refl refl refl;
+  media = media_same g.O.Objects (areas_same g.D.Disk {old = c.args.core.now.master} refl) refl refl;
   later = omega arith;
 }
 

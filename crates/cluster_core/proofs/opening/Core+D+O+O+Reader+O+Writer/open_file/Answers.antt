@@ -1,7 +1,7 @@
 use Rattle.std.proofs.Common.{refl}
 use Rattle.inode_tree.specs.Rows.{file_in_row}
 use Rattle.cluster_core.proofs.OpenGo.{open_refused, open_short, open_done}
-use Rattle.cluster_core.proofs.MediaStay.{media_same, media_kept, media_then}
+use Rattle.cluster_core.proofs.MediaStay.{media_itself, media_kept, media_then}
 use Rattle.std.specs.Prelude.{pred}
 use Rattle.cluster_core.proofs.SteadyStay.{steady_added, steady_kept, steady_same}
 use Rattle.cluster_core.proofs.Caused.{open_calm, refused_caused}
@@ -26,7 +26,7 @@ returns-in-Ok-prepare_label-clause-steps g c =
     open_done g.O.Objects g.O.Reader.ObjectRead g.O.Writer.ObjectWrite c.args.self.now c.args.actor c.requires c.args.label.now c.args.path.now c.args.worker c.prepare_label.new.self c.add_hand.new.self (file_in_row c.in-Ok.row) c.in-Ok-prepare_label.copy did.label may.0 may.1 may.2 did.rest did.workers did.hands add.rest add.workers add.put
 
 pub returns-in-Err-clause-media : goal.returns-in-Err-clause-media
-returns-in-Err-clause-media g c = media_same g.O.Objects refl refl refl
+returns-in-Err-clause-media g c = media_itself g.O.Objects
 
 pub returns-in-Err-prepare_label-clause-media : goal.returns-in-Err-prepare_label-clause-media
 returns-in-Err-prepare_label-clause-media g c = media_kept g.O.Objects c.prepare_label.ensures.rest c.prepare_label.ensures.workers
@@ -51,4 +51,4 @@ returns-in-Ok-prepare_label-clause-steady g c = λ steady.
 pub returns-in-Err-clause-cause : goal.returns-in-Err-clause-cause
 returns-in-Err-clause-cause g c =
     let core = c.args.self.now in
-    refused_caused g.O.Objects g.O.Reader.ObjectRead g.O.Writer.ObjectWrite core core c.args.actor (Event.OpenFile c.args.label.now c.args.path.now ReadType.NoCache c.args.worker) _ c.in-Err.refusal (open_calm core.block core.names (here core.workers.items core.hands.items c.args.actor c.args.label.now c.args.worker) c.args.path.now) c.in-Err.ensures.err
+    refused_caused g.O.Objects g.O.Reader.ObjectRead g.O.Writer.ObjectWrite core core c.args.actor (Event.OpenFile c.args.label.now c.args.path.now ReadType.NoCache c.args.worker) _ c.in-Err.refusal (open_calm core.master core.block (here core.workers.items core.hands.items c.args.actor c.args.label.now c.args.worker) c.args.path.now) c.in-Err.ensures.err

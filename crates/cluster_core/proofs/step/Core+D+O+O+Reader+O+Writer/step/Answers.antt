@@ -10,7 +10,9 @@ use Rattle.fs_model.specs.declared.event.WriteType.{WriteType}
 use Rattle.fs_model.specs.declared.label.Label.{Label}
 use Rattle.fs_model.specs.declared.path.Path.{Path}
 use Rattle.cluster_core.specs.Causes.{IsCaused}
+use Rattle.cluster_core.specs.Crashes.{Crashes}
 use Rattle.cluster_core.specs.Goes.{Steps}
+use Rattle.cluster_core.proofs.Crashed.{rests_same}
 use Rattle.cluster_core.proofs.step.Core+D+O+O+Reader+O+Writer.step.Goals as goal
 
 -- a file that the program can make is made at a worker
@@ -60,3 +62,27 @@ returns-in-Poll-clause-steps g c = subst (λ e. Steps g.D.Disk g.O.Objects g.O.R
 
 pub returns-in-Poll-clause-cause : goal.returns-in-Poll-clause-cause
 returns-in-Poll-clause-cause g c = subst (λ e. IsCaused g.D.Disk g.O.Objects g.O.Reader.ObjectRead g.O.Writer.ObjectWrite c.args.self.now c.poll.new.self c.args.actor e c.poll.result) (sym c.in-Poll.is) c.poll.ensures.cause
+
+pub returns-in-Room-clause-crash : goal.returns-in-Room-clause-crash
+returns-in-Room-clause-crash g c = subst (λ e. Crashes g.D.Disk c.args.self.now c.room.new.self c.args.actor e c.room.result) (sym c.in-Room.is) (rests_same g.D.Disk c.room.ensures.kept)
+
+pub returns-in-Put-clause-crash : goal.returns-in-Put-clause-crash
+returns-in-Put-clause-crash g c = subst (λ e. Crashes g.D.Disk c.args.self.now c.put.new.self c.args.actor e c.put.result) (sym c.in-Put.is) (rests_same g.D.Disk c.put.ensures.kept)
+
+pub returns-in-Next-clause-crash : goal.returns-in-Next-clause-crash
+returns-in-Next-clause-crash g c = subst (λ e. Crashes g.D.Disk c.args.self.now c.next.new.self c.args.actor e c.next.result) (sym c.in-Next.is) (rests_same g.D.Disk c.next.ensures.kept)
+
+pub returns-in-Poll-clause-crash : goal.returns-in-Poll-clause-crash
+returns-in-Poll-clause-crash g c = subst (λ e. Crashes g.D.Disk c.args.self.now c.poll.new.self c.args.actor e c.poll.result) (sym c.in-Poll.is) (rests_same g.D.Disk c.poll.ensures.kept)
+
+pub returns-in-Close-clause-crash : goal.returns-in-Close-clause-crash
+returns-in-Close-clause-crash g c = subst (λ e. Crashes g.D.Disk c.args.self.now c.close_label.new.self c.args.actor e c.close_label.result) (sym c.in-Close.is) (rests_same g.D.Disk c.close_label.ensures.kept)
+
+pub returns-in-OpenFile-default-default-NoCache-default-clause-crash : goal.returns-in-OpenFile-default-default-NoCache-default-clause-crash
+returns-in-OpenFile-default-default-NoCache-default-clause-crash g c = subst (λ e. Crashes g.D.Disk c.args.self.now c.open_file.new.self c.args.actor e c.open_file.result) (sym c.in-OpenFile-default-default-NoCache-default.is) (rests_same g.D.Disk c.open_file.ensures.kept)
+
+pub returns-in-Mkdir-clause-steps : goal.returns-in-Mkdir-clause-steps
+returns-in-Mkdir-clause-steps g c = subst (λ e. Steps g.D.Disk g.O.Objects g.O.Reader.ObjectRead g.O.Writer.ObjectWrite c.args.self.now c.mkdir.new.self c.args.actor e c.mkdir.result) (sym c.in-Mkdir.is) c.mkdir.ensures.steps
+
+pub returns-in-Checkpoint-clause-steps : goal.returns-in-Checkpoint-clause-steps
+returns-in-Checkpoint-clause-steps g c = subst (λ e. Steps g.D.Disk g.O.Objects g.O.Reader.ObjectRead g.O.Writer.ObjectWrite c.args.self.now c.checkpoint.new.self c.args.actor e c.checkpoint.result) (sym c.in-Checkpoint.is) c.checkpoint.ensures.steps
