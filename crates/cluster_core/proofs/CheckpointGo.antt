@@ -23,7 +23,7 @@ use Rattle.outside.specs.declared.objects.ObjectWrite as writes
 use Rattle.journal_entry.specs.Meaning.{checkpoint_entries}
 use Rattle.journal_entry.proofs.CheckpointLengths.{length-checkpoint}
 use Rattle.journal_disk.specs.AreaText.{gate_behind}
-use Rattle.journal_disk.specs.Journaling.{HadCause, IsFull, Journaling}
+use Rattle.journal_disk.specs.Journaling.{HadCause, IsFull, Journaling, area_0, area_1}
 use Rattle.journal_disk.specs.Journaling as journals
 use Rattle.journal_disk.specs.declared.fault.AppendFault.{AppendFault}
 use Rattle.journal_disk.specs.declared.fault.AppendFault.TheVariants as faults
@@ -33,8 +33,10 @@ use Rattle.cluster_core.specs.Causes.{IsCaused}
 use Rattle.cluster_core.specs.Media.{AreasStay, MediaStays}
 use Rattle.cluster_core.specs.Goes.{Steps, Rises, no_rise}
 use Rattle.cluster_core.specs.NamesStand.{NamesStand}
+use Rattle.cluster_core.specs.AreasStand.{with_doubt}
 use Rattle.cluster_core.specs.Stands.{Stands}
 use Rattle.cluster_core.specs.declared.cluster.Core.{Core}
+use Rattle.cluster_core.proofs.AreaFacts.{areas_entered, areas_fused, areas_same, areas_stopped, standing_is, up_is}
 use Rattle.cluster_core.proofs.Journaled.{burnt_is, goes_stopped, serves, stopped_stand}
 use Rattle.cluster_core.proofs.MediaStay.{areas_go, areas_stay, media_same}
 use Rattle.cluster_core.proofs.Named.{serves_none, stopped_is}
@@ -54,7 +56,11 @@ module _ {D S R W : Type 0} {d : disks.Ghosts D} (o : objects.Ghosts S R W) (r :
   Full = nat_lt old.master.journal.limit (checkpoint_gate (names_of old.master) + 1) || nat_le (2 ^ 64 - 1) old.master.journal.generation
 
   tests_are : (U : Setup) (V : Whole) (s : Stands d o r w U old V) → refusal U V.body (hands_of V who) Event.Checkpoint ≡ first (refuse Refusal.Stopped old.master.journal.failed ∷ past Which.Area Full ∷ [])
-  tests_are U V s = λ j. first (refuse Refusal.Stopped (s.names.down j) ∷ past Which.Area (nat_lt (s.setup.area j) (checkpoint_gate (s.names.names j) + 1) || nat_le (2 ^ 64 - 1) (s.names.generation j)) ∷ [])
+  tests_are U V s = by old.master.journal.failed refl
+    where
+      by : (b : Bool) → old.master.journal.failed ≡ b → refusal U V.body (hands_of V who) Event.Checkpoint ≡ first (refuse Refusal.Stopped old.master.journal.failed ∷ past Which.Area Full ∷ [])
+      by true down = rw (s.names.down, down) refl
+      by false up = λ j. first (refuse Refusal.Stopped (s.names.down j) ∷ past Which.Area (nat_lt (s.setup.area j) (checkpoint_gate (s.names.names j) + 1) || nat_le (2 ^ 64 - 1) (s.names.generation up j)) ∷ [])
 
   pub checkpoint_refused : old.master.journal.failed ≡ true → Steps d o r w old old who Event.Checkpoint (Reply.Refused Refusal.Stopped)
   checkpoint_refused down = λ U V s. goes_refused o r w U old old V who Event.Checkpoint (Reply.Refused Refusal.Stopped) s (tests_are U V s ∙ ap (λ b. first (refuse Refusal.Stopped b ∷ past Which.Area Full ∷ [])) down) refl refl
@@ -81,6 +87,10 @@ module _ {D S R W : Type 0} {d : disks.Ghosts D} (o : objects.Ghosts S R W) (r :
     passes : (U : Setup) (V : Whole) (s : Stands d o r w U old V) → Full ≡ false → refusal U V.body (hands_of V who) Event.Checkpoint ≡ None
     passes U V s fits = tests_are U V s ∙ (λ j. first (refuse Refusal.Stopped (up j) ∷ past Which.Area (fits j) ∷ []))
 
+    -- the checkpoint that may have been made
+    renewed_in_doubt : (A : State) → NamesStand old.master A → renewed (standing_of old.master) ≡ with_doubt (Some Doubt.InCheckpoint) A.names A.master.gate A.master.generation
+    renewed_in_doubt A s = λ i. record { names = sym s.names i; gate = (gate_is (names_of old.master) ∙ sym (ap checkpoint_gate s.names)) i; generation = ap (λ n. n + 1) (sym (s.generation up)) i }
+
     checkpoint_done : Renewed d old.master new.master → Steps d o r w old new who Event.Checkpoint Reply.Done
     checkpoint_done h = λ U V s.
         let H = hands_of V who in
@@ -88,17 +98,18 @@ module _ {D S R W : Type 0} {d : disks.Ghosts D} (o : objects.Ghosts S R W) (r :
         let N = names_of old.master in
         let stood : NamesStand new.master B = record {
           names = s.names.names ∙ sym h.names;
-          gate = ap checkpoint_gate s.names.names ∙ sym (gate_is N) ∙ sym (ap (λ (j : Journaling D). j.gate) h.made);
-          generation = ap (λ n. n + 1) s.names.generation ∙ sym (ap (λ (j : Journaling D). j.generation) h.made);
+          gate = λ _. ap checkpoint_gate s.names.names ∙ sym (gate_is N) ∙ sym (ap (λ (j : Journaling D). j.gate) h.made);
+          generation = λ _. ap (λ n. n + 1) (s.names.generation up) ∙ sym (ap (λ (j : Journaling D). j.generation) h.made);
           fuse = (λ j. spend (checkpoint_calls (s.names.names j)) (s.names.fuse j)) ∙ ap (λ n. spend n old.master.journal.here.fuse) (sym (calls_are N)) ∙ sym (h.burnt ∙ burnt_is (journals.checkpoint_calls (checkpoint_entries N)) old.master.journal.here.fuse);
           down = s.names.down ∙ sym (ap (λ (j : Journaling D). j.failed) h.made);
           unlocked = s.names.unlocked;
+          unseen = s.names.unseen;
         } in
         record {
           after = put_back V who B H;
           rise = no_rise;
           made = None;
-          stands = stands_master o r w U old new V who B.master s b k l h.goes_on.limit h.names stood;
+          stands = stands_master o r w U old new V who B.master s b k l h.goes_on.limit h.names stood (areas_entered d s.known B.contents old.block old.master new.master B.names B.master s.areas.tell h.goes_on h.later (standing_is new.master B stood (ap (λ (j : Journaling D). j.failed) h.made ∙ up)) (s.areas.certain (up_is old.master V.body s.names up)));
           rises = Rises.Nothing;
           step = record {
             body = B;
@@ -119,7 +130,8 @@ module _ {D S R W : Type 0} {d : disks.Ghosts D} (o : objects.Ghosts S R W) (r :
         let doubt : Option Doubt = Some Doubt.InCheckpoint in
         let N = names_of old.master in
         goes_stopped o r w U old new V who Event.Checkpoint noted_as (journals.checkpoint_calls (checkpoint_entries N)) (stopped_with doubt new.master.journal.here.fuse V.body) (hands_of V who) (passes U V s (not_full (h.stopped refl).1)) refl refl refl (ap checkpoint_calls s.names.names ∙ sym (calls_are N)) s.names stopped.cause stopped.goes_on.fuse refl refl
-        (stands_master o r w U old new V who (stopped_with doubt new.master.journal.here.fuse V.body).master s b k l stopped.goes_on.limit stopped.names (stopped_stand d old.master new.master V.body s.names (journals.checkpoint_calls (checkpoint_entries N)) (renewed (standing_of old.master)) doubt stopped))
+        (stands_master o r w U old new V who (stopped_with doubt new.master.journal.here.fuse V.body).master s b k l stopped.goes_on.limit stopped.names (stopped_stand d old.master new.master V.body s.names (journals.checkpoint_calls (checkpoint_entries N)) (renewed (standing_of old.master)) doubt stopped)
+        (areas_stopped d s.known V.body.contents old.block (journals.checkpoint_calls (checkpoint_entries N)) (renewed (standing_of old.master)) old.master new.master V.body.names (stopped_with doubt new.master.journal.here.fuse V.body).master s.areas.tell stopped (standing_is old.master V.body s.names up) (renewed_in_doubt V.body s.names) refl tt))
 
     -- where it was answered with a fault
     pub checkpoint_fails : (fault : AppendFault) (reply : Reply) → reply ≡ fault_reply fault → Renews {T = ⊤} d old.master new.master (Err fault) → Steps d o r w old new who Event.Checkpoint reply
@@ -151,17 +163,18 @@ module _ {D S R W : Type 0} {d : disks.Ghosts D} (o : objects.Ghosts S R W) (r :
         let B = (fuse_outcome V.body n).1 in
         let stood : NamesStand new.master B = record {
           names = s.names.names ∙ sym names;
-          gate = s.names.gate ∙ sym (ap (λ (j : Journaling D). j.gate) journal);
-          generation = s.names.generation ∙ sym (ap (λ (j : Journaling D). j.generation) journal);
+          gate = λ up. s.names.gate (sym (ap (λ (j : Journaling D). j.failed) journal) ∙ up) ∙ sym (ap (λ (j : Journaling D). j.gate) journal);
+          generation = λ up. s.names.generation (sym (ap (λ (j : Journaling D). j.failed) journal) ∙ up) ∙ sym (ap (λ (j : Journaling D). j.generation) journal);
           fuse = sym (ap (λ (j : Journaling D). j.here.fuse) journal);
           down = s.names.down ∙ sym (ap (λ (j : Journaling D). j.failed) journal);
           unlocked = s.names.unlocked;
+          unseen = s.names.unseen;
         } in
         record {
           after = put_back V who B H;
           rise = no_rise;
           made = None;
-          stands = stands_master o r w U old new V who B.master s b k l (ap (λ (j : Journaling D). j.limit) journal) names stood;
+          stands = stands_master o r w U old new V who B.master s b k l (ap (λ (j : Journaling D). j.limit) journal) names stood (areas_same d s.known V.body.contents old.block old.master new.master V.body.names B.master (ap (λ (j : Journaling D). d.history (area_0 j)) journal) (ap (λ (j : Journaling D). d.history (area_1 j)) journal) (ap (λ (j : Journaling D). d.tells (area_0 j)) journal) (ap (λ (j : Journaling D). d.tells (area_1 j)) journal) (areas_fused d s.known V.body.contents old.block old.master V.body.names V.body.master (Some n) s.areas));
           rises = Rises.Nothing;
           step = record { body = B; hands = H; step = Step.Accepted (fault_free 0) refl refl (serves_none V.body.master.fuse) refl refl refl; after = refl };
         }

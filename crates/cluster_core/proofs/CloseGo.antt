@@ -1,5 +1,5 @@
 -- The end of a label as a step of the file machine.
-use Rattle.std.proofs.Common.{◌≡◌, ℕ, zero, suc, pred, ◌<◌, ◌≤◌, ◌^◌, true, false, cond, get_or, nat_le, nat_lt, nat_eq, ◌&&◌, ap₂, Option, Some, None, is_none, refl, sym, ap, ◌∙◌, subst, arith}
+use Rattle.std.proofs.Common.{◌≡◌, ℕ, zero, suc, pred, ◌<◌, ◌≤◌, ◌^◌, true, false, cond, get_or, nat_le, nat_lt, nat_eq, ◌&&◌, ap₂, Option, Some, None, is_none, refl, sym, ap, ◌∙◌, subst, arith, length}
 use Rattle.std.specs.Prelude.{IsSomeAnd, IfSome, slice_get, option_and_then, option_map, not}
 use Rattle.std.proofs.lemmas.List.{set-get_or}
 use Rattle.std.proofs.lemmas.List.Elements.{All-weaker, All-filter}
@@ -85,8 +85,9 @@ module _ {D S R W : Type 0} {d : disks.Ghosts D} (o : objects.Ghosts S R W) (r :
           made = None;
           stands = stands_by o r w U new after s.known old.block old.master.journal.limit old.master old.workers.items new.hands.items rest.block (ap (λ k. k.journal.limit) rest.master) rest.master (ap (λ v. v.items) workers) refl (record {
             setup = s.setup;
-            named = record { names = s.names.names; gate = s.names.gate; generation = s.names.generation; fuse = s.names.fuse; down = s.names.down; unlocked = s.names.unlocked };
-            workers = record { rows = s.workers.rows; registrations = s.workers.registrations; first = s.workers.first };
+            named = record { names = s.names.names; gate = s.names.gate; generation = s.names.generation; fuse = s.names.fuse; down = s.names.down; unlocked = s.names.unlocked; unseen = s.names.unseen };
+            areas = s.areas;
+            workers = record { rows = s.workers.rows; registrations = s.workers.registrations; first = s.workers.first; one = s.workers.one };
             hands = hands_ended r w s.known s.known old.workers.items old.workers.items old.master.kept.names.next_id old.master.kept.names.next_id old.block i l (leaves_all (suc i, l) s.known old.workers.items old.master.kept.names.next_id) V.hands old.hands.items new.hands.items s.hands within (Hand.Reading x) (machine.Hand.Reading m) at hands;
             files = s.files;
             objects = s.objects;
@@ -130,8 +131,9 @@ module _ {D S R W : Type 0} {d : disks.Ghosts D} (o : objects.Ghosts S R W) (r :
           made = None;
           stands = stands_by o r w U new after s.known old.block old.master.journal.limit old.master new.workers.items new.hands.items rest.block (ap (λ k. k.journal.limit) rest.master) rest.master refl refl (record {
             setup = setup;
-            named = record { names = s.names.names; gate = s.names.gate; generation = s.names.generation; fuse = s.names.fuse; down = s.names.down; unlocked = s.names.unlocked };
-            workers = record { rows = workers.rows; registrations = workers.registrations; first = workers.first };
+            named = record { names = s.names.names; gate = s.names.gate; generation = s.names.generation; fuse = s.names.fuse; down = s.names.down; unlocked = s.names.unlocked; unseen = s.names.unseen };
+            areas = s.areas;
+            workers = record { rows = workers.rows; registrations = workers.registrations; first = workers.first; one = workers.one };
             hands = hands_ended r w s.known s.known old.workers.items new.workers.items old.master.kept.names.next_id old.master.kept.names.next_id old.block i l left V.hands old.hands.items new.hands.items s.hands within (Hand.Writing x) (machine.Hand.Writing m) at hands;
             files = s.files;
             objects = objects;
@@ -150,7 +152,7 @@ module _ {D S R W : Type 0} {d : disks.Ghosts D} (o : objects.Ghosts S R W) (r :
     close_kept m at frees same =
         let nodes : new.workers.items ≡ old.workers.items = ap (λ v. v.items) same in
         close_writing m (λ W. W) at frees
-        (subst (λ ns. WorkersStand ns (change_worker m.worker (λ W. W) V.body)) (sym nodes) (record { rows = set-get_or V.body.workers (pred m.worker) no_worker ∙ s.workers.rows; registrations = s.workers.registrations; first = λ v runs. s.workers.first v (ap (λ ws. nat_lt 0 v && (get_or ws (pred v) no_worker).running) (sym (set-get_or V.body.workers (pred m.worker) no_worker)) ∙ runs) }))
+        (subst (λ ns. WorkersStand ns (change_worker m.worker (λ W. W) V.body)) (sym nodes) (record { rows = set-get_or V.body.workers (pred m.worker) no_worker ∙ s.workers.rows; registrations = s.workers.registrations; first = λ v runs. s.workers.first v (ap (λ ws. nat_lt 0 v && (get_or ws (pred v) no_worker).running) (sym (set-get_or V.body.workers (pred m.worker) no_worker)) ∙ runs); one = λ some. ap (λ ws. (get_or ws 0 no_worker).running) (set-get_or V.body.workers (pred m.worker) no_worker) ∙ s.workers.one (subst (λ ws. 0 < length ws) (set-get_or V.body.workers (pred m.worker) no_worker) some) }))
         (subst (λ ns. SetupFits U old.block old.master.journal.limit ns) (sym nodes) s.setup)
         (subst (NodesStand o s.known old.master.kept.names.next_id old.block) (sym nodes) s.objects)
         (subst (λ ns. Leaves (suc i, l) s.known s.known old.workers.items ns old.master.kept.names.next_id old.master.kept.names.next_id) (sym nodes) (leaves_all (suc i, l) s.known old.workers.items old.master.kept.names.next_id))

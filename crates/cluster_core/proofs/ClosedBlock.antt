@@ -1,5 +1,5 @@
 -- A writer whose open block was committed, and what the core stands by then.
-use Rattle.std.proofs.Common.{◌≡◌, ℕ, suc, pred, ◌<◌, ◌≤◌, ◌^◌, Bool, true, false, ◌&&◌, cond, List, get_or, nat_eq, nat_lt, Option, Some, None, is_some, option_map, inl, refl, sym, ap, ap₂, ◌∙◌, subst, arith}
+use Rattle.std.proofs.Common.{◌≡◌, ℕ, suc, pred, ◌<◌, ◌≤◌, ◌^◌, Bool, true, false, ◌&&◌, cond, List, get_or, nat_eq, nat_lt, Option, Some, None, is_some, option_map, inl, refl, sym, ap, ap₂, ◌∙◌, subst, arith, length}
 use Rattle.std.specs.Prelude.{IsSome, IfSome}
 use Rattle.std.proofs.lemmas.List.{set-get_or}
 use Rattle.std.proofs.lemmas.Bool.{eq-eqb, leb-true}
@@ -161,7 +161,7 @@ module _ {D S R W : Type 0} (o : objects.Ghosts S R W) (w : writes.Ghosts W) (K 
       let shut : m.block ≡ None = (f.on whole).block ∙ ap (λ e. open_of e x.bytes.block) none in
       let does : (λ (k : Worker). k) ≡ close_open U A m m.block = λ j k. sym (ap (λ b. close_open U A m b k) shut) j in
       record {
-        workers = subst (λ (g : Worker → Worker). WorkersStand mid (change_worker m.worker g A)) does (subst (λ ns. WorkersStand ns (change_worker m.worker (λ k. k) A)) (sym same) (record { rows = set-get_or A.workers (pred m.worker) no_worker ∙ workers.rows; registrations = workers.registrations; first = λ v is. workers.first v (ap (λ ws. nat_lt 0 v && (get_or ws (pred v) no_worker).running) (sym (set-get_or A.workers (pred m.worker) no_worker)) ∙ is) }));
+        workers = subst (λ (g : Worker → Worker). WorkersStand mid (change_worker m.worker g A)) does (subst (λ ns. WorkersStand ns (change_worker m.worker (λ k. k) A)) (sym same) (record { rows = set-get_or A.workers (pred m.worker) no_worker ∙ workers.rows; registrations = workers.registrations; first = λ v is. workers.first v (ap (λ ws. nat_lt 0 v && (get_or ws (pred v) no_worker).running) (sym (set-get_or A.workers (pred m.worker) no_worker)) ∙ is); one = λ some. ap (λ ws. (get_or ws 0 no_worker).running) (set-get_or A.workers (pred m.worker) no_worker) ∙ workers.one (subst (λ ws. 0 < length ws) (set-get_or A.workers (pred m.worker) no_worker) some) }));
         setup = subst (SetupFits U bs area) (sym same) setup;
         nodes_stand = subst (NodesStand o K master.kept.names.next_id bs) (sym same) stand;
         leaves = subst (λ ns. Leaves (suc i, l) K K nodes ns master.kept.names.next_id master.kept.names.next_id) (sym same) (leaves_all (suc i, l) K nodes master.kept.names.next_id);

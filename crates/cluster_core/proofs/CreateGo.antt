@@ -53,7 +53,7 @@ use Rattle.cluster_core.specs.Knowledge.{Knowledge, Holder, Leaves, with_author,
 use Rattle.cluster_core.specs.Here.{started_here, configured_here}
 use Rattle.cluster_core.specs.Creating.{no_bytes, new_writer}
 use Rattle.cluster_core.specs.Openings.{has_here, count_here, here}
-use Rattle.cluster_core.specs.Stands.{Stands, HandsStand, NodesStand, FilesStand, FileFits, content_row}
+use Rattle.cluster_core.specs.Stands.{Stands, HandsStand, NodesStand, FilesStand, FileFits}
 use Rattle.cluster_core.specs.Goes.{Steps, Rises, no_rise}
 use Rattle.cluster_core.specs.declared.cluster.Core.{Core}
 use Rattle.cluster_core.specs.declared.hand.Hand.{Hand}
@@ -71,6 +71,13 @@ use Rattle.cluster_core.proofs.Frames.{KnownOn, DoneOn, nodes_stay, files_stay}
 use Rattle.cluster_core.proofs.CloseGo.{by_actor}
 use Rattle.cluster_core.proofs.HereIs.{configured_is, live_is, started_is}
 use Rattle.cluster_core.proofs.KeptHands.{hands_kept}
+use Rattle.std.specs.Prelude.{IsErrOf}
+use Rattle.journal_disk.specs.Journaling.{Journaling}
+use Rattle.cluster_core.specs.AreasStand.{with_doubt}
+use Rattle.cluster_core.proofs.AreaFacts.{areas_entered, areas_stopped, standing_is, up_is}
+use Rattle.cluster_core.proofs.Journaled.{change_in_doubt}
+use Rattle.cluster_core.proofs.Entries.{create_up}
+use Rattle.cluster_core.specs.AreasStand.{content_row}
 
 -- ---- labels
 
@@ -237,11 +244,14 @@ module _ {D S R W : Type 0} {d : disks.Ghosts D} (o : objects.Ghosts S R W) (r :
     abbrev entry : Entry
     entry = Entry.Create old.master.kept.names.next_id p
 
-    pub create_stops : create_test old.master (here old.workers.items old.hands.items (suc i) l at) p ≡ None → HasStopped d 4 (entered entry (standing_of old.master)) old.master new.master → ChangesAt old.hands.items new.hands.items i KeepsHands → Steps d o r w old new (suc i) (Event.Create l p WriteType.MustCache at) (Reply.Refused Refusal.JournalFault)
-    create_stops passes h kept = λ U V s.
+    pub create_stops : counts_in entry (names_of old.master) ≡ true → create_test old.master (here old.workers.items old.hands.items (suc i) l at) p ≡ None → HasStopped d 4 (entered entry (standing_of old.master)) old.master new.master → ChangesAt old.hands.items new.hands.items i KeepsHands → Steps d o r w old new (suc i) (Event.Create l p WriteType.MustCache at) (Reply.Refused Refusal.JournalFault)
+    create_stops counts passes h kept = λ U V s.
         let doubt : Option Doubt = Some (Doubt.InChange (Change.Create V.body.names.next_id p) []) in
+        let up = create_up old.master p (here old.workers.items old.hands.items (suc i) l at) (sym passes) in
         goes_stopped o r w U old new V (suc i) (Event.Create l p WriteType.MustCache at) noted_as 4 (stopped_with doubt new.master.journal.here.fuse V.body) (hands_of V (suc i)) (tests_are U V s ∙ passes) refl refl refl refl s.names h.cause h.goes_on.fuse refl refl
-        (stands_master_by o r w U old new V (suc i) (stopped_with doubt new.master.journal.here.fuse V.body).master s b k (kept_hands U V s kept) h.goes_on.limit h.names (stopped_stand d old.master new.master V.body s.names 4 (entered entry (standing_of old.master)) doubt h))
+        (stands_master_by o r w U old new V (suc i) (stopped_with doubt new.master.journal.here.fuse V.body).master s b k (kept_hands U V s kept) h.goes_on.limit h.names (stopped_stand d old.master new.master V.body s.names 4 (entered entry (standing_of old.master)) doubt h)
+        (areas_stopped d s.known V.body.contents old.block 4 (entered entry (standing_of old.master)) old.master new.master V.body.names (stopped_with doubt new.master.journal.here.fuse V.body).master s.areas.tell h (standing_is old.master V.body s.names up)
+        (subst (λ n. entered entry (standing_of old.master) ≡ with_doubt (Some (Doubt.InChange (Change.Create n p) [])) V.body.names V.body.master.gate V.body.master.generation) (sym (next_id_is s.names)) (change_in_doubt old.master V.body (Change.Create old.master.kept.names.next_id p) [] s.names up counts refl)) refl refl))
 
     pub create_done : 0 < at → create_test old.master (here old.workers.items old.hands.items (suc i) l at) p ≡ None → Entered d entry old.master new.master → counts_in entry (names_of old.master) ≡ true
         → ChangesAt old.hands.items new.hands.items i (AddsHand l (Hand.Writing (new_writer old.master.kept.names.next_id at (started_here old.workers.items at) old.block))) → Steps d o r w old new (suc i) (Event.Create l p WriteType.MustCache at) Reply.Done
@@ -256,7 +266,8 @@ module _ {D S R W : Type 0} {d : disks.Ghosts D} (o : objects.Ghosts S R W) (r :
         let G = add_hand l (machine.Hand.Writing m) H in
         let after = put_back V (suc i) B G in
         let N = with_new next holder s.known in
-        let stood = entered_stand d old.master new.master V.body s.names (Change.Create next p) h counts refl s.names.unlocked in
+        let up = create_up old.master p (here old.workers.items old.hands.items (suc i) l at) (sym passes) in
+        let stood = entered_stand d old.master new.master V.body s.names (Change.Create next p) up h counts refl s.names.unlocked s.names.unseen in
         let named : NamesStand new.master B = subst (λ (n : ℕ). NamesStand new.master (journal (Change.Create n p) V.body)) (sym (next_id_is s.names)) stood in
         let is : names_of new.master ≡ apply (Change.Create next p) (names_of old.master) = sym stood.names ∙ ap (apply (Change.Create next p)) s.names.names in
         let more : new.master.kept.names.next_id ≡ next + 1 = let e : new.master.kept.names.next_id ≡ max next (next + 1) = ap (λ (n : Names). n.next_id) is in omega (arith, e) in
@@ -268,7 +279,8 @@ module _ {D S R W : Type 0} {d : disks.Ghosts D} (o : objects.Ghosts S R W) (r :
           stands = stands_by o r w U new after N old.block old.master.journal.limit new.master nodes new.hands.items b h.goes_on.limit refl (ap (λ x. x.items) k) refl (record {
             setup = s.setup;
             named = named;
-            workers = record { rows = s.workers.rows; registrations = s.workers.registrations; first = s.workers.first };
+            areas = areas_entered d N B.contents old.block old.master new.master B.names B.master s.areas.tell h.goes_on h.later (standing_is new.master B named (ap (λ (j : Journaling D). j.failed) h.moved ∙ up)) (s.areas.certain (up_is old.master V.body s.names up));
+            workers = record { rows = s.workers.rows; registrations = s.workers.registrations; first = s.workers.first; one = s.workers.one };
             hands = subst (λ (n : ℕ). HandsStand r w N nodes n old.block after.hands new.hands.items) (sym more)
                 (hands_added r w s.known N nodes nodes next (next + 1) old.block i l (leaves_new s.known next holder nodes) V.hands old.hands.items new.hands.items s.hands within (Hand.Writing x) (machine.Hand.Writing m)
                 (absent_at r w s.known nodes next old.block V.hands old.hands.items s.hands i within l (add_absent i l (Hand.Writing x) old.hands.items new.hands.items added)) added
@@ -301,11 +313,11 @@ module _ {D S R W : Type 0} {d : disks.Ghosts D} (o : objects.Ghosts S R W) (r :
   module _ (new : Core D S R W d w) (b : new.block ≡ old.block) (k : new.workers ≡ old.workers) (some : 0 < at) (passes : None ≡ create_test old.master (here old.workers.items old.hands.items who l at) p) where
     -- whatever came of the entry
     pub create_steps : {T : Type 0} (result : Result T AppendFault) → Enters d (Entry.Create old.master.kept.names.next_id p) old.master new.master result → OnOk result (counts_in (Entry.Create old.master.kept.names.next_id p) (names_of old.master) ≡ true)
-        → OnOk result (ChangesAt old.hands.items new.hands.items (pred who) (AddsHand l (Hand.Writing (new_writer old.master.kept.names.next_id at (started_here old.workers.items at) old.block)))) → OnErr result (ChangesAt old.hands.items new.hands.items (pred who) KeepsHands) → Leads new (done_or result) who
-    create_steps (Ok x) h counts added kept = by_actor (λ v. Tested v None → ChangesAt old.hands.items new.hands.items (pred v) (AddsHand l (Hand.Writing (new_writer old.master.kept.names.next_id at (started_here old.workers.items at) old.block))) → Leads new Reply.Done v)
+        → (IsErrOf result faults.Failed → counts_in (Entry.Create old.master.kept.names.next_id p) (names_of old.master) ≡ true) → OnOk result (ChangesAt old.hands.items new.hands.items (pred who) (AddsHand l (Hand.Writing (new_writer old.master.kept.names.next_id at (started_here old.workers.items at) old.block)))) → OnErr result (ChangesAt old.hands.items new.hands.items (pred who) KeepsHands) → Leads new (done_or result) who
+    create_steps (Ok x) h counts counted added kept = by_actor (λ v. Tested v None → ChangesAt old.hands.items new.hands.items (pred v) (AddsHand l (Hand.Writing (new_writer old.master.kept.names.next_id at (started_here old.workers.items at) old.block))) → Leads new Reply.Done v)
         (λ i within passed. create_done o r w old i within l p at new b k some passed h.done counts) who actor (sym passes) added
-    create_steps (Err faults.Failed) h counts added kept = by_actor (λ v. Tested v None → ChangesAt old.hands.items new.hands.items (pred v) KeepsHands → Leads new (Reply.Refused Refusal.JournalFault) v)
-        (λ i within passed. create_stops o r w old i within l p at new b k passed (h.stopped refl)) who actor (sym passes) kept
-    create_steps (Err faults.Memory) h counts added kept = by_actor (λ v. ChangesAt old.hands.items new.hands.items (pred v) KeepsHands → Leads new (Reply.Refused Refusal.Memory) v)
+    create_steps (Err faults.Failed) h counts counted added kept = by_actor (λ v. Tested v None → ChangesAt old.hands.items new.hands.items (pred v) KeepsHands → Leads new (Reply.Refused Refusal.JournalFault) v)
+        (λ i within passed. create_stops o r w old i within l p at new b k (counted refl) passed (h.stopped refl)) who actor (sym passes) kept
+    create_steps (Err faults.Memory) h counts counted added kept = by_actor (λ v. ChangesAt old.hands.items new.hands.items (pred v) KeepsHands → Leads new (Reply.Refused Refusal.Memory) v)
         (λ i within. create_short o r w old i within l p at new b k (h.short refl)) who actor kept
-    create_steps (Err faults.Full) h counts added kept = absurd (create_room old.master p (here old.workers.items old.hands.items who l at) passes (h.full refl))
+    create_steps (Err faults.Full) h counts counted added kept = absurd (create_room old.master p (here old.workers.items old.hands.items who l at) passes (h.full refl))

@@ -9,9 +9,10 @@ use Rattle.fs_model.specs.State.{Node as machineNode, NodeRow, File, Content}
 use Rattle.fs_model.specs.Lookups.{id_is}
 use Rattle.fs_model.specs.Changes.{set_file}
 use Rattle.cluster_core.specs.Knowledge.{Knowledge, Holder, with_author, with_owner}
-use Rattle.cluster_core.specs.Stands.{FilesStand, FileFits, DoneFits, content_row}
+use Rattle.cluster_core.specs.Stands.{FilesStand, FileFits, DoneFits}
 use Rattle.cluster_core.specs.Names.{done_nodes}
 use Rattle.cluster_core.proofs.Frames.{KnownOn}
+use Rattle.cluster_core.specs.AreasStand.{content_row}
 
 -- ---- one element more at the end
 

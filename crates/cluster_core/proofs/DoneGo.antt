@@ -81,6 +81,12 @@ use Rattle.cluster_core.proofs.NamesSteps.{NoneHolds, none_holds}
 use Rattle.cluster_core.proofs.NamesGo.{noted_as}
 use Rattle.cluster_core.proofs.SourceFacts.{found_file}
 use Rattle.cluster_core.proofs.Journaled.{entered_stand, goes_stopped, serves, stopped_stand}
+use Rattle.fs_model.specs.BytesEvents.{unbroken_writer, writer_at}
+use Rattle.cluster_core.proofs.Named.{next_id_is}
+use Rattle.journal_disk.specs.Journaling.{Journaling}
+use Rattle.cluster_core.specs.AreasStand.{DoubtFits, with_doubt}
+use Rattle.cluster_core.proofs.AreaFacts.{areas_entered, areas_known, areas_stopped, standing_is, up_is}
+use Rattle.cluster_core.proofs.Journaled.{change_in_doubt}
 
 not_none : {X : Type 0} (y : Option X) → is_some y ≡ true → is_none y ≡ false
 not_none None h = absurd (cc)
@@ -143,6 +149,10 @@ module _ {D S R W : Type 0} {d : disks.Ghosts D} (o : objects.Ghosts S R W) (r :
 
     no_refusal : refusal U V.body (hands_of V (suc i)) (Event.Finish l) ≡ None
     no_refusal = refusal_is ∙ passes
+
+    -- the master is up
+    up : was.master.journal.failed ≡ false
+    up = not_refused Refusal.Stopped was.master.journal.failed pass.0
 
     -- ---- the file is done
 
@@ -207,11 +217,11 @@ module _ {D S R W : Type 0} {d : disks.Ghosts D} (o : objects.Ghosts S R W) (r :
 
       -- the names after the commit stand
       closed_stand : NamesStand was.master (close_block U V.body m)
-      closed_stand = record { names = s.names.names; gate = s.names.gate; generation = s.names.generation; fuse = s.names.fuse; down = s.names.down; unlocked = s.names.unlocked }
+      closed_stand = record { names = s.names.names; gate = s.names.gate; generation = s.names.generation; fuse = s.names.fuse; down = s.names.down; unlocked = s.names.unlocked; unseen = s.names.unseen }
 
-      module _ (block : new.block ≡ was.block) where
-        pub done_goes : Entered d (done_entry x) was.master new.master → counts_in (done_entry x) (names_of was.master) ≡ true → ChangesAt was.hands.items new.hands.items i (EndsHand l (Hand.Writing x)) → Goes d o r w U was new V (suc i) (Event.Finish l) Reply.Done
-        done_goes entered counts hands =
+      module _ (block : new.block ≡ was.block) (counts : counts_in (done_entry x) (names_of was.master) ≡ true) where
+        pub done_goes : Entered d (done_entry x) was.master new.master → ChangesAt was.hands.items new.hands.items i (EndsHand l (Hand.Writing x)) → Goes d o r w U was new V (suc i) (Event.Finish l) Reply.Done
+        done_goes entered hands =
             let H = hands_of V (suc i) in
             let A = V.body in
             let C = close_block U A m in
@@ -219,7 +229,7 @@ module _ {D S R W : Type 0} {d : disks.Ghosts D} (o : objects.Ghosts S R W) (r :
             let G = end_hand l H in
             let after = put_back V (suc i) B G in
             let h = subst (λ (e : Entry). Entered d e was.master new.master) entry_is entered in
-            let stood = entered_stand d was.master new.master C closed_stand change h (subst (λ (e : Entry). counts_in e (names_of was.master) ≡ true) entry_is counts) refl s.names.unlocked in
+            let stood = entered_stand d was.master new.master C closed_stand change up h (subst (λ (e : Entry). counts_in e (names_of was.master) ≡ true) entry_is counts) refl s.names.unlocked s.names.unseen in
             let is : names_of new.master ≡ apply change (names_of was.master) = sym stood.names ∙ ap (apply change) s.names.names in
             let done : ◌≡◌ {A = Outcome} (Reply.Done, B, G) (accepted U (fault_free 0) A H (suc i) (Event.Finish l)) =
             sym (ap (finish_by U A (suc i) H l) unbroken_is ∙ ap (λ t. let q : Outcome = (begun_by (stored_by t) A, keep_bytes m.file m.taken (unpark_if (stored_by t) A.names.next_plan A m.file (journal (Change.Done m.file (length m.taken) (stored_by t) (plan_of_stored A (stored_by t))) C)), end_hand l H) in q) f.kind) in
@@ -229,8 +239,9 @@ module _ {D S R W : Type 0} {d : disks.Ghosts D} (o : objects.Ghosts S R W) (r :
               made = Some change;
               stands = stands_by o r w U new after done_known was.block was.master.journal.limit new.master new.workers.items new.hands.items block entered.goes_on.limit refl refl refl (record {
                 setup = parts.setup;
-                named = record { names = stood.names; gate = stood.gate; generation = stood.generation; fuse = stood.fuse; down = stood.down; unlocked = stood.unlocked };
-                workers = record { rows = parts.workers.rows; registrations = parts.workers.registrations; first = parts.workers.first };
+                named = record { names = stood.names; gate = stood.gate; generation = stood.generation; fuse = stood.fuse; down = stood.down; unlocked = stood.unlocked; unseen = stood.unseen };
+                areas = areas_entered d done_known B.contents was.block was.master new.master B.names B.master s.areas.tell entered.goes_on entered.later (standing_is new.master B (record { names = stood.names; gate = stood.gate; generation = stood.generation; fuse = stood.fuse; down = stood.down; unlocked = stood.unlocked; unseen = stood.unseen }) (ap (λ (j : Journaling D). j.failed) entered.moved ∙ up)) (s.areas.certain (up_is was.master A s.names up));
+                workers = record { rows = parts.workers.rows; registrations = parts.workers.registrations; first = parts.workers.first; one = parts.workers.one };
                 hands = subst (λ (N : Names). HandsStand r w done_known new.workers.items N.next_id was.block after.hands new.hands.items) (sym is)
                     (hands_ended r w s.known done_known was.workers.items new.workers.items was.master.kept.names.next_id was.master.kept.names.next_id was.block i l parts.leaves V.hands was.hands.items new.hands.items s.hands within (Hand.Writing x) (machine.Hand.Writing m) at hands);
                 files = subst (λ (N : Names). FilesStand done_known N.next_id was.block N.nodes B.contents) (sym is) files_after;
@@ -266,6 +277,30 @@ module _ {D S R W : Type 0} {d : disks.Ghosts D} (o : objects.Ghosts S R W) (r :
             some_before true q h = absurd (cc)
             some_before false q h = h
 
+        writer_is : writer_at (hands_of V (suc i)) l ≡ Some m
+        writer_is = ap (option_and_then unbroken_writer) at ∙ ap (λ b. cond b None (Some m)) (f.broken ∙ whole)
+
+        -- the bytes that may be the file's are the writer's
+        doubt_is : doubt_of U V.body (hands_of V (suc i)) (Event.Finish l) ≡ Some (Doubt.InChange change m.taken)
+        doubt_is = ap (option_map (λ c. Doubt.InChange c (doubt_bytes (hands_of V (suc i)) (Event.Finish l)))) (sym made) ∙ ap (λ y. Some (Doubt.InChange change (elim y as (λ t. List ℕ) [ None ↦ [] | Some k ↦ k.taken ]))) writer_is
+
+        -- the change that may have been made
+        in_doubt : entered (done_entry x) (standing_of was.master) ≡ with_doubt (doubt_of U V.body (hands_of V (suc i)) (Event.Finish l)) V.body.names V.body.master.gate V.body.master.generation
+        in_doubt = ap (λ e. entered e (standing_of was.master)) entry_is ∙ change_in_doubt was.master V.body change m.taken s.names up (subst (λ (e : Entry). counts_in e (names_of was.master) ≡ true) entry_is counts) refl ∙ ap (λ o. with_doubt o V.body.names V.body.master.gate V.body.master.generation) (sym doubt_is)
+
+        -- it fits what is known
+        doubt_fits : DoubtFits done_known V.body.contents V.body.names.next_id was.block (doubt_of U V.body (hands_of V (suc i)) (Event.Finish l))
+        doubt_fits = subst (DoubtFits done_known V.body.contents V.body.names.next_id was.block) (sym doubt_is) (record {
+          old = subst (λ n. m.file < n) (sym (next_id_is s.names)) f.old;
+          unstored = refl;
+          planless = refl;
+          bytes = (same_files s.known x.room x.worker m.file).0 ∙ f.bytes;
+          len = refl;
+          short = let q = f.short in omega (arith, q);
+          written = ap (cond (nat_eq m.file m.file) None) (same_files s.known x.room x.worker m.file).1 ∙ no_author s.known m.file;
+          unkept = s.files.written m.file (ap is_some (author whole));
+        })
+
         pub done_stops : HasStopped d 4 (entered (done_entry x) (standing_of was.master)) was.master new.master → ChangesAt was.hands.items new.hands.items i (SetsHand l (Hand.Writing x) (Hand.Writing (closed_writer true x))) → Goes d o r w U was new V (suc i) (Event.Finish l) (Reply.Refused Refusal.JournalFault)
         done_stops h hands =
             let H = hands_of V (suc i) in
@@ -283,8 +318,9 @@ module _ {D S R W : Type 0} {d : disks.Ghosts D} (o : objects.Ghosts S R W) (r :
             let stood = stopped_stand d was.master new.master C closed_stand 4 (entered (done_entry x) (standing_of was.master)) doubt h in
             let stands_now : Stands d o r w U new after = stands_by o r w U new after done_known was.block was.master.journal.limit new.master new.workers.items new.hands.items block h.goes_on.limit refl refl refl (record {
               setup = parts.setup;
-              named = record { names = stood.names; gate = stood.gate; generation = stood.generation; fuse = stood.fuse; down = stood.down; unlocked = stood.unlocked };
-              workers = record { rows = parts.workers.rows; registrations = parts.workers.registrations; first = parts.workers.first };
+              named = record { names = stood.names; gate = stood.gate; generation = stood.generation; fuse = stood.fuse; down = stood.down; unlocked = stood.unlocked; unseen = stood.unseen };
+              areas = areas_stopped d done_known A.contents was.block 4 (entered (done_entry x) (standing_of was.master)) was.master new.master B.names B.master s.areas.tell h (standing_is was.master A s.names up) in_doubt refl doubt_fits;
+              workers = record { rows = parts.workers.rows; registrations = parts.workers.registrations; first = parts.workers.first; one = parts.workers.one };
               hands = subst (λ (N : Names). HandsStand r w done_known new.workers.items N.next_id was.block after.hands new.hands.items) (sym h.names)
                   (hands_set r w s.known done_known was.workers.items new.workers.items was.master.kept.names.next_id was.master.kept.names.next_id was.block i l parts.leaves V.hands was.hands.items new.hands.items s.hands within (Hand.Writing x) (Hand.Writing (closed_writer true x)) (machine.Hand.Writing m) (machine.Hand.Writing k) at hands broken_done);
               files = subst (λ (N : Names). FilesStand done_known N.next_id was.block N.nodes A.contents) (sym h.names) files_known;
@@ -344,8 +380,9 @@ module _ {D S R W : Type 0} {d : disks.Ghosts D} (o : objects.Ghosts S R W) (r :
             made = None;
             stands = stands_by o r w U new after N was.block was.master.journal.limit was.master new.workers.items new.hands.items rest.block (ap (λ k. k.journal.limit) rest.master) rest.master refl refl (record {
               setup = setup_stays (room_to_litter n) was.workers.items new.workers.items m.worker rows s.setup;
-              named = record { names = s.names.names; gate = s.names.gate; generation = s.names.generation; fuse = s.names.fuse; down = s.names.down; unlocked = s.names.unlocked };
-              workers = record { rows = workers.rows; registrations = workers.registrations; first = workers.first };
+              named = record { names = s.names.names; gate = s.names.gate; generation = s.names.generation; fuse = s.names.fuse; down = s.names.down; unlocked = s.names.unlocked; unseen = s.names.unseen };
+              areas = areas_known d s.known N V.body.contents was.block was.master V.body.names V.body.master (λ id few none. (refl, none)) s.areas;
+              workers = record { rows = workers.rows; registrations = workers.registrations; first = workers.first; one = workers.one };
               hands = hands_set r w s.known N was.workers.items new.workers.items was.master.kept.names.next_id was.master.kept.names.next_id was.block i l (lost_leaves o r w was new l i x whole U V s m f stands runs file n reserved lost) V.hands was.hands.items new.hands.items s.hands within (Hand.Writing x) (Hand.Writing (closed_writer true x)) (machine.Hand.Writing m) (machine.Hand.Writing k) at hands (broken_fits w s.known N was.workers.items new.workers.items was.master.kept.names.next_id was.block (suc i, l) m x f whole refl refl);
               files = files_owned s.known (Some n) x.worker was.master.kept.names.next_id was.block was.master.kept.names.nodes A.contents s.files;
               objects = lost_nodes o r w was new l i x whole U V s m f stands runs file n reserved lost;

@@ -134,18 +134,18 @@ module _ {D S R W : Type 0} {d : disks.Ghosts D} (o : objects.Ghosts S R W) (r :
         (λ i within ended.
         let found = fits_at r w s.known was.workers.items was.master.kept.names.next_id was.block V.hands was.hands.items s.hands i within l (Hand.Writing x) (end_there i l (Hand.Writing x) was.hands.items new.hands.items ended) in
         by_kind was i U V s (Ends was U V (suc i) Reply.Done) (λ m at f.
-        done_goes o r w was l i within x took.unbroken U V s m at f new (passes was took) (commits was took) (stays was took) (block was took) (subst (λ k. Entered d (done_entry x) k new.master) (before was took) entered) (subst (λ k. counts_in (done_entry x) (names_of k) ≡ true) (before was took) counts) ended)
+        done_goes o r w was l i within x took.unbroken U V s m at f new (passes was took) (commits was took) (stays was took) (block was took) (subst (λ k. counts_in (done_entry x) (names_of k) ≡ true) (before was took) counts) (subst (λ k. Entered d (done_entry x) k new.master) (before was took) entered) ended)
         found.0 found.1 found.2)
         who actor (subst (λ z. ChangesAt was.hands.items z.items (pred who) (EndsHand l (Hand.Writing x))) (sym (held ∙ hands)) took.hands)
 
     -- the journal failed, and the writer was put back broken
-    pub after_stops : (y : Writer W) → y ≡ closed_writer true x → ChangesAt mid.hands.items new.hands.items (pred who) (AddsHand l (Hand.Writing y)) → HasStopped d 4 (entered (done_entry x) (standing_of mid.master)) mid.master new.master → StepsFrom d o r w now new who l x (Event.Finish l) (Reply.Refused Refusal.JournalFault)
-    after_stops y broken put stopped was took U V s =
+    pub after_stops : counts_in (done_entry x) (names_of mid.master) ≡ true → (y : Writer W) → y ≡ closed_writer true x → ChangesAt mid.hands.items new.hands.items (pred who) (AddsHand l (Hand.Writing y)) → HasStopped d 4 (entered (done_entry x) (standing_of mid.master)) mid.master new.master → StepsFrom d o r w now new who l x (Event.Finish l) (Reply.Refused Refusal.JournalFault)
+    after_stops counts y broken put stopped was took U V s =
         by_actor (λ a. ChangesAt was.hands.items new.hands.items (pred a) (SetsHand l (Hand.Writing x) (Hand.Writing y)) → Ends was U V a (Reply.Refused Refusal.JournalFault))
         (λ i within sets.
         let mine = subst (λ z. ChangesAt was.hands.items new.hands.items i (SetsHand l (Hand.Writing x) (Hand.Writing z))) broken sets in
         with_writer o r w was new l i within x (closed_writer true x) mine U V s (Ends was U V (suc i) (Reply.Refused Refusal.JournalFault)) (λ m at f.
-        done_stops o r w was l i within x took.unbroken U V s m at f new (passes was took) (commits was took) (stays was took) (block was took) (subst (λ k. HasStopped d 4 (entered (done_entry x) (standing_of k)) k new.master) (before was took) stopped) mine))
+        done_stops o r w was l i within x took.unbroken U V s m at f new (passes was took) (commits was took) (stays was took) (block was took) (subst (λ k. counts_in (done_entry x) (names_of k) ≡ true) (before was took) counts) (subst (λ k. HasStopped d 4 (entered (done_entry x) (standing_of k)) k new.master) (before was took) stopped) mine))
         who actor (sets_hand (pred who) l l (Hand.Writing x) (Hand.Writing y) was.hands.items now.hands.items new.hands.items refl took.hands (subst (λ z. ChangesAt z.items new.hands.items (pred who) (AddsHand l (Hand.Writing y))) hands put))
 
 -- ---- from before the entry was made ready

@@ -76,8 +76,12 @@ gone_is master A s K contents next bs id a written all = ap (λ (N : Names). is_
 
 module _ {D S R W : Type 0} (o : objects.Ghosts S R W) (w : writes.Ghosts W) (U : Setup) (A : State) (master : Mastering D) (nodes : List (Node S)) (bs area next : ℕ) (K : Knowledge) (a : Holder) (named : NamesStand master A) (s : WorkersStand nodes A) (u : SetupFits U bs area nodes) (limit : area ≡ master.journal.limit) (stand : (i : ℕ) (node : Node S) → slice_get nodes i ≡ Some node → NodeStands o K next bs (suc i) node) (small : bs < 2 ^ 32) (m : machine.Writer) (x : Writer W) (f : WriterFits w K nodes next bs a m x) (whole : x.broken ≡ false) (contents : List Content) (files : All (FileFits K contents next bs) master.kept.names.nodes) where
   pub finish_tests_are : finish_writer_refusal U A m ≡ finish_test master nodes x
-  finish_tests_are =
-      let stands = stands_same o w U A master nodes bs area next K a named s u stand small m x f whole in
-      let gone : is_none (file_of A.names m.file) ≡ not (file_passes (λ f. not f.done) (file_of master.kept.names x.file)) = gone_is master A named K contents next bs m.file a (writes_whole K m.file a x.broken f.author whole) files ∙ ap (λ n. not (file_passes (λ f. not f.done) (file_of master.kept.names n))) f.file in
-      (λ j. first (refuse Stopped (named.down j) ∷ refuse NotFound (gone j) ∷ no_lock A named.unlocked (path_of A.names m.file) j ∷ (past_plans A only_if stored_is_yes (stored_by (f.kind j))) ∷ (past_ids A.names.next_plan only_if stored_is_yes (stored_by (f.kind j))) ∷ past Which.Area (nat_lt ((u.area ∙ limit) j) (named.gate j + 2 + 30)) ∷ refuse (NoWorker (f.worker j)) (is_cached (f.kind j) && not (stands j)) ∷ []))
-      ∙ tidy (stop_test master) (refuse NotFound (not (file_passes (λ f. not f.done) (file_of master.kept.names x.file)))) (past Which.Area (is_short master 30)) (refuse (NoWorker x.worker) (not (runs_here nodes x.worker x.started)))
+  finish_tests_are = by master.journal.failed refl
+    where
+      by : (b : Bool) → master.journal.failed ≡ b → finish_writer_refusal U A m ≡ finish_test master nodes x
+      by true down = rw (named.down, down) refl
+      by false up =
+          let stands = stands_same o w U A master nodes bs area next K a named s u stand small m x f whole in
+          let gone : is_none (file_of A.names m.file) ≡ not (file_passes (λ f. not f.done) (file_of master.kept.names x.file)) = gone_is master A named K contents next bs m.file a (writes_whole K m.file a x.broken f.author whole) files ∙ ap (λ n. not (file_passes (λ f. not f.done) (file_of master.kept.names n))) f.file in
+          (λ j. first (refuse Stopped (named.down j) ∷ refuse NotFound (gone j) ∷ no_lock A named.unlocked (path_of A.names m.file) j ∷ (past_plans A only_if stored_is_yes (stored_by (f.kind j))) ∷ (past_ids A.names.next_plan only_if stored_is_yes (stored_by (f.kind j))) ∷ past Which.Area (nat_lt ((u.area ∙ limit) j) (named.gate up j + 2 + 30)) ∷ refuse (NoWorker (f.worker j)) (is_cached (f.kind j) && not (stands j)) ∷ []))
+          ∙ tidy (stop_test master) (refuse NotFound (not (file_passes (λ f. not f.done) (file_of master.kept.names x.file)))) (past Which.Area (is_short master 30)) (refuse (NoWorker x.worker) (not (runs_here nodes x.worker x.started)))

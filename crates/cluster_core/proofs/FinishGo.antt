@@ -38,6 +38,7 @@ use Rattle.cluster_core.proofs.Entries.{IsFullFor}
 use Rattle.cluster_core.proofs.MediaStay.{areas_go, areas_stay, media_kept, media_same, media_then}
 use Rattle.cluster_core.proofs.NamesSteps.{has_room, not_refused}
 use Rattle.cluster_core.proofs.SteadyStay.{steady_added, steady_by, steady_same}
+use Rattle.master_state.specs.Effect.{counts_in}
 
 -- where neither memory nor room is missing, a call failed
 only_failed : (fault : AppendFault) → (fault ≡ faults.Memory → ⊥) → (fault ≡ faults.Full → ⊥) → fault ≡ faults.Failed
@@ -84,8 +85,8 @@ module _ {D S R W : Type 0} {d : disks.Ghosts D} (o : objects.Ghosts S R W) (r :
   y_is : y ≡ closed_writer true x
   y_is = broken ∙ set_broken x z closed
 
-  pub stops_steps : IfSome x.room (λ n. IfSome (block_writer x.bytes) (λ pen. ChangesAt now.workers.items mid.workers.items (pred x.worker) (Commits o w n (key_at now.workers.items x.worker n) pen (finished_of now.master.kept.names.nodes now.block x)))) → (x.room ≡ None → mid.workers ≡ now.workers) → StepsFrom d o r w now new who l x (Event.Finish l) reply
-  stops_steps done kept = subst (StepsFrom d o r w now new who l x (Event.Finish l)) (sym answered) (after_stops o r w now mid new l who actor x rest hands put_block workers passes done kept y y_is puts stops)
+  pub stops_steps : counts_in (done_entry x) (names_of mid.master) ≡ true → IfSome x.room (λ n. IfSome (block_writer x.bytes) (λ pen. ChangesAt now.workers.items mid.workers.items (pred x.worker) (Commits o w n (key_at now.workers.items x.worker n) pen (finished_of now.master.kept.names.nodes now.block x)))) → (x.room ≡ None → mid.workers ≡ now.workers) → StepsFrom d o r w now new who l x (Event.Finish l) reply
+  stops_steps counts done kept = subst (StepsFrom d o r w now new who l x (Event.Finish l)) (sym answered) (after_stops o r w now mid new l who actor x rest hands put_block workers passes done kept counts y y_is puts stops)
 
   pub stops_media : MediaStays d o now mid → MediaStays d o now new
   stops_media media = media_then o media (media_same o (areas_go d stops.goes_on) put_stores workers)

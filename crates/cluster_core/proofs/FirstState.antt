@@ -1,5 +1,5 @@
 -- A core that begins stands for each state that a play begins with.
-use Rattle.std.proofs.Common.{◌≡◌, ◌⊎◌, inl, inr, not, Ok, ℕ, zero, suc, pred, ◌<◌, true, false, ◌&&◌, List, [], ◌∷◌, map, length, get_or, nat_lt, Option, Some, None, option_map, refl, sym, ap, ◌∙◌, subst, arith}
+use Rattle.std.proofs.Common.{◌≡◌, ◌⊎◌, inl, inr, not, Ok, ℕ, zero, suc, pred, ◌<◌, true, false, ◌&&◌, List, [], ◌∷◌, map, length, get_or, nat_lt, Option, Some, None, option_map, refl, sym, ap, ◌∙◌, subst, arith, IsTrue}
 use Rattle.std.specs.Prelude.{IsSomeAnd, IsSome, slice_get}
 use Rattle.std.specs.Global.{Vec}
 use Rattle.std.specs.List.{All}
@@ -33,12 +33,17 @@ use Rattle.master_node.specs.Mastering.{Mastering, Standing, names_of, standing_
 use Rattle.master_node.specs.Recovery.{IsAgain, IsFirst, IsOver, first_standing}
 use Rattle.cluster_core.specs.NamesStand.{NamesStand}
 use Rattle.cluster_core.specs.Nodes.{node_row}
-use Rattle.cluster_core.specs.Stands.{Stands, WorkersStand, HandsStand, FilesStand, FileFits, NodesStand, CopyStands, TierTells, content_row}
+use Rattle.cluster_core.specs.Stands.{Stands, WorkersStand, HandsStand, FilesStand, FileFits, NodesStand, CopyStands, TierTells}
 use Rattle.cluster_core.specs.declared.node.Node.{Node}
 use Rattle.cluster_core.specs.declared.hand.Hand.{Hand}
 use Rattle.cluster_core.specs.declared.cluster.Core.{Core}
 use Rattle.cluster_core.proofs.Places.{second_is}
 use Rattle.cluster_core.proofs.Standing.{stands_by}
+use Rattle.cluster_core.specs.AreasStand.{content_row}
+use Rattle.journal_disk.specs.Journaling.{BothTell, area_0, area_1, fused_0, fused_1}
+use Rattle.cluster_core.proofs.Sides.{fused_sides}
+use Rattle.master_node.specs.Mastering.{IsKept}
+use Rattle.cluster_core.proofs.AreaFacts.{areas_kept, standing_is}
 
 -- ---- lists
 
@@ -89,6 +94,10 @@ first_alone tiers (suc zero) is = refl
 first_alone [] (suc (suc k)) is = let no : false ≡ true = second_is (nat_lt 0 (suc (suc k))) false is in absurd (cc)
 first_alone (t ∷ tiers) (suc (suc k)) is = let no : false ≡ true = ap (λ (W : Worker). W.running) (sym (others_idle tiers k)) ∙ second_is (nat_lt 0 (suc (suc k))) (get_or (map (λ (s : List ℕ). no_worker) tiers) k no_worker).running is in absurd (cc)
 
+first_there : (tiers : List (List ℕ)) → 0 < length (first_runs (map (λ t. no_worker) tiers)) → (get_or (first_runs (map (λ t. no_worker) tiers)) 0 no_worker).running ≡ true
+first_there [] some = absurd (omega (arith, some))
+first_there (t ∷ tiers) some = refl
+
 -- a book that begins has nothing, and its next number is 1
 record IsFresh (b : BookView) : Type 0 where
   pub rows_none : b.rows ≡ []
@@ -111,15 +120,27 @@ fresh_first d U a b m over tell none = by over.from
     by (inl again) = let found = again.found tell in absurd (let never = sym none ∙ found.1 in cc)
     by (inr first) = first.standing
 
+-- the areas tell afterwards where they did before
+pub over_tells : {D : Type 0} (d : disks.Ghosts D) (U : Setup) (a b : Fusing D) (m : Mastering D) → IsOver d U a b m → Tell d a b → BothTell d m.journal
+over_tells d U a b m over tell = by over.from
+  where
+    side : ((fused_0 m.journal).disk ≡ area_0 m.journal) × ((fused_1 m.journal).disk ≡ area_1 m.journal)
+    side = fused_sides m.journal
+
+    by : IsAgain d a b m ⊎ IsFirst d U a b m → BothTell d m.journal
+    by (inl again) = (subst IsTrue (sym (ap d.tells (sym side.0) ∙ again.areas.tells_0)) tell.0, subst IsTrue (sym (ap d.tells (sym side.1) ∙ again.areas.tells_1)) tell.1)
+    by (inr first) = (subst IsTrue (sym (ap d.tells (sym side.0) ∙ first.areas.tells_0 ∙ first.areas.opening.tells_0)) tell.0, subst IsTrue (sym (ap d.tells (sym side.1) ∙ first.areas.tells_1 ∙ first.areas.opening.tells_1)) tell.1)
+
 -- it stands for the names of each state that a play begins with
 first_stands : {D : Type 0} (U : Setup) (V : Whole) → Begins U V → (m : Mastering D) → standing_of m ≡ first_standing U → m.journal.failed ≡ false → m.journal.here.fuse ≡ None → NamesStand m V.body
 first_stands U V b m standing up unfused = record {
   names = ap (λ (A : State). A.names) b.body ∙ sym (ap (λ (s : Standing). s.names) standing);
-  gate = ap (λ (A : State). A.master.gate) b.body ∙ sym (length-checkpoint (fresh_names U)) ∙ sym (ap (λ (s : Standing). s.gate) standing);
-  generation = ap (λ (A : State). A.master.generation) b.body ∙ sym (ap (λ (s : Standing). s.generation) standing);
+  gate = λ _. ap (λ (A : State). A.master.gate) b.body ∙ sym (length-checkpoint (fresh_names U)) ∙ sym (ap (λ (s : Standing). s.gate) standing);
+  generation = λ _. ap (λ (A : State). A.master.generation) b.body ∙ sym (ap (λ (s : Standing). s.generation) standing);
   fuse = ap (λ (A : State). A.master.fuse) b.body ∙ sym unfused;
   down = ap (λ (A : State). not A.master.up) b.body ∙ sym up;
   unlocked = ap (λ (A : State). A.names.locks) b.body;
+  unseen = ap (λ (A : State). A.names.seen) b.body;
 }
 
 -- nothing is known of files
@@ -135,6 +156,7 @@ module _ {S R W : Type 0} (o : objects.Ghosts S R W) (r : reads.Ghosts R) (w : w
         rows = body ∙ sym are;
         registrations = ap (λ (A : State). A.registrations) b.body ∙ sym (registrations_are U.tiers) ∙ ap (map known_by) (sym are) ∙ maps_twice known_by node_row nodes;
         first = λ v is. first_alone U.tiers v (ap (λ rows. nat_lt 0 v && (get_or rows (pred v) no_worker).running) (sym body) ∙ is);
+        one = λ some. ap (λ rows. (get_or rows 0 no_worker).running) body ∙ first_there U.tiers (subst (λ rows. 0 < length rows) body some);
       }
 
   hands_stand : (nodes : List (Node S)) (labels : List (LabelsView (Hand R W))) → length labels ≡ 64 → All HasNone labels → HandsStand r w nothing nodes 1 U.block V.hands labels
@@ -174,12 +196,14 @@ module _ {D S R W : Type 0} {d : disks.Ghosts D} (o : objects.Ghosts S R W) (r :
   -- the core stands for the state
   pub begin_stands : (m : Media D S) (C : Core D S R W d w) → C.block ≡ U.block → C.master.journal.limit ≡ U.area → standing_of C.master ≡ first_standing U → C.master.journal.failed ≡ false → C.master.journal.here.fuse ≡ None
       → map (λ n. n.book) C.workers.items ≡ map fresh_book U.tiers → map node_row C.workers.items ≡ first_runs (map idle_row (map fresh_book U.tiers)) → map (λ n. n.tiers) C.workers.items ≡ m.tiers.items
-      → length C.hands.items ≡ 64 → All HasNone C.hands.items → TiersEmpty o m → Stands d o r w U C V
-  begin_stands m C block area standing up unfused books rows tiers actors none empty =
+      → length C.hands.items ≡ 64 → All HasNone C.hands.items → TiersEmpty o m → BothTell d C.master.journal → IsKept d C.master → Stands d o r w U C V
+  begin_stands m C block area standing up unfused books rows tiers actors none empty tell kept =
       let names : names_of C.master ≡ fresh_names U = ap (λ (s : Standing). s.names) standing in
+      let named = first_stands U V b C.master standing up unfused in
       stands_by o r w U C V nothing U.block U.area C.master C.workers.items C.hands.items block area refl refl refl (record {
         setup = record { block = refl; area = refl; tiers = sym (map-id U.tiers) ∙ sym (maps_twice (λ (x : BookView). x.sizes) fresh_book U.tiers) ∙ ap (map (λ (x : BookView). x.sizes)) (sym books) ∙ maps_twice (λ (x : BookView). x.sizes) (λ (n : Node S). n.book) C.workers.items };
-        named = first_stands U V b C.master standing up unfused;
+        named = named;
+        areas = areas_kept d nothing V.body.contents U.block C.master V.body.names V.body.master tell kept (standing_is C.master V.body named up) (ap (λ (A : State). A.master.doubt) b.body);
         workers = workers_stand o r w U V b C.workers.items rows;
         hands = subst (λ (N : Names). HandsStand r w nothing C.workers.items N.next_id U.block V.hands C.hands.items) (sym names) (hands_stand o r w U V b C.workers.items C.hands.items actors none);
         files = subst (λ (N : Names). FilesStand nothing N.next_id U.block N.nodes V.body.contents) (sym names) (files_stand o r w U V b);

@@ -14,7 +14,8 @@ use Rattle.outside.specs.declared.objects.Objects as objects
 use Rattle.cluster_core.specs.declared.node.Node.{Node}
 use Rattle.cluster_core.specs.Tiers.{object_key}
 use Rattle.cluster_core.specs.Knowledge.{Knowledge}
-use Rattle.cluster_core.specs.Stands.{FileFits, DoneFits, ObjectFits, HasObject, CopyStands, NodeStands, NodesStand, content_row}
+use Rattle.cluster_core.specs.Stands.{FileFits, DoneFits, ObjectFits, HasObject, CopyStands, NodeStands, NodesStand}
+use Rattle.cluster_core.specs.AreasStand.{content_row}
 
 -- ---- what is known goes on
 

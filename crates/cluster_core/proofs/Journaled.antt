@@ -27,7 +27,8 @@ use Rattle.journal_entry.proofs.BodyLengths.{length-change}
 use Rattle.journal_disk.specs.AreaText.{next_gate}
 use Rattle.journal_disk.specs.Journaling.{GoesOn, HadCause, Journaling, area_0, area_1}
 use Rattle.master_state.specs.Effect.{counts_in, effect, taken}
-use Rattle.master_node.specs.Mastering.{Mastering, Standing, names_of}
+use Rattle.master_node.specs.Mastering.{Mastering, Standing, entered, names_of, standing_of}
+use Rattle.cluster_core.specs.AreasStand.{with_doubt}
 use Rattle.cluster_core.specs.Entering.{Entered, HasStopped, Stays}
 use Rattle.cluster_core.specs.NamesStand.{NamesStand}
 use Rattle.cluster_core.specs.Stands.{Stands}
@@ -61,43 +62,56 @@ shrinks (Some m) (Some n) h = le-leb n m h
 
 -- ---- what a master stands for then
 
+-- what a change is to make of a master is what is in doubt while it fails
+pub change_in_doubt : {D : Type 0} (m : Mastering D) (A : State) (c : Change) (bytes : List ℕ) → NamesStand m A → m.journal.failed ≡ false → counts_in (entry_of_change c) (names_of m) ≡ true → effect (entry_of_change c) (names_of m) ≡ apply c (names_of m)
+    → entered (entry_of_change c) (standing_of m) ≡ with_doubt (Some (Doubt.InChange c bytes)) A.names A.master.gate A.master.generation
+change_in_doubt m A c bytes s up counts does =
+    let e = entry_of_change c in
+    let did : taken e (names_of m) ≡ apply c A.names = ap (λ b. cond b (effect e (names_of m)) (names_of m)) counts ∙ does ∙ ap (apply c) (sym s.names) in
+    let long : length (entry_text e) ≡ entry_len c = length-change c in
+    let place : next_gate m.journal.gate e ≡ A.master.gate + 1 + entry_len c = let was = s.gate up in omega (arith, was, long) in
+    λ i. record { names = did i; gate = place i; generation = sym (s.generation up) i }
+
 module _ {D : Type 0} (d : disks.Ghosts D) (old new : Mastering D) (A : State) (s : NamesStand old A) where
   -- what is the same on both sides of a call
   pub stays_stand : Stays d old new → NamesStand new A
   stays_stand h = record {
     names = s.names ∙ sym h.names;
-    gate = s.gate ∙ sym (ap (λ (j : Journaling D). j.gate) h.journal.rest);
-    generation = s.generation ∙ sym (ap (λ (j : Journaling D). j.generation) h.journal.rest);
+    gate = λ up. s.gate (sym (ap (λ (j : Journaling D). j.failed) h.journal.rest) ∙ up) ∙ sym (ap (λ (j : Journaling D). j.gate) h.journal.rest);
+    generation = λ up. s.generation (sym (ap (λ (j : Journaling D). j.failed) h.journal.rest) ∙ up) ∙ sym (ap (λ (j : Journaling D). j.generation) h.journal.rest);
     fuse = s.fuse ∙ sym (ap (λ (j : Journaling D). j.here.fuse) h.journal.rest);
     down = s.down ∙ sym (ap (λ (j : Journaling D). j.failed) h.journal.rest);
     unlocked = s.unlocked;
+    unseen = s.unseen;
   }
 
   -- after a change that was journaled
-  pub entered_stand : (c : Change) → Entered d (entry_of_change c) old new → counts_in (entry_of_change c) (names_of old) ≡ true → effect (entry_of_change c) (names_of old) ≡ apply c (names_of old) → (apply c A.names).locks ≡ [] → NamesStand new (journal c A)
-  entered_stand c h counts does unlocked =
+  pub entered_stand : (c : Change) → old.journal.failed ≡ false → Entered d (entry_of_change c) old new → counts_in (entry_of_change c) (names_of old) ≡ true → effect (entry_of_change c) (names_of old) ≡ apply c (names_of old) → (apply c A.names).locks ≡ [] → (apply c A.names).seen ≡ [] → NamesStand new (journal c A)
+  entered_stand c up h counts does unlocked unseen =
       let e = entry_of_change c in
       let did : taken e (names_of old) ≡ apply c (names_of old) = ap (λ b. cond b (effect e (names_of old)) (names_of old)) counts ∙ does in
       let long : length (entry_text e) ≡ entry_len c = length-change c in
       let gate : new.journal.gate ≡ old.journal.gate + 1 + length (entry_text e) = ap (λ (j : Journaling D). j.gate) h.moved in
       record {
         names = ap (apply c) s.names ∙ sym (h.names ∙ did);
-        gate = omega (arith, s.gate, gate, long);
-        generation = s.generation ∙ sym (ap (λ (j : Journaling D). j.generation) h.moved);
+        gate = λ _. let was = s.gate up in omega (arith, was, gate, long);
+        generation = λ _. s.generation up ∙ sym (ap (λ (j : Journaling D). j.generation) h.moved);
         fuse = ap (spend 4) s.fuse ∙ sym (h.burnt ∙ burnt_is 4 old.journal.here.fuse);
         down = s.down ∙ sym (ap (λ (j : Journaling D). j.failed) h.moved);
         unlocked = unlocked;
+        unseen = unseen;
       }
 
   -- after a failed call, with anything in doubt
   pub stopped_stand : (calls : ℕ) (t : Standing) (doubt : Option Doubt) → HasStopped d calls t old new → NamesStand new (stopped_with doubt new.journal.here.fuse A)
   stopped_stand calls t doubt h = record {
     names = s.names ∙ sym h.names;
-    gate = s.gate ∙ sym (ap (λ (j : Journaling D). j.gate) h.failed);
-    generation = s.generation ∙ sym (ap (λ (j : Journaling D). j.generation) h.failed);
+    gate = λ up. absurd (let no = sym up ∙ ap (λ (j : Journaling D). j.failed) h.failed in cc);
+    generation = λ up. absurd (let no = sym up ∙ ap (λ (j : Journaling D). j.failed) h.failed in cc);
     fuse = refl;
     down = sym (ap (λ (j : Journaling D). j.failed) h.failed);
     unlocked = s.unlocked;
+    unseen = s.unseen;
   }
 
 -- ---- the step of a failed call

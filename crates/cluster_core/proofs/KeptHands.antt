@@ -37,6 +37,7 @@ module _ {D S R W : Type 0} {d : disks.Ghosts D} (o : objects.Ghosts S R W) (r :
   stands_kept old new i within rest workers change s = stands_by o r w U new V s.known old.block old.master.journal.limit old.master old.workers.items new.hands.items rest.block (ap (λ k. k.journal.limit) rest.master) rest.master (ap (λ v. v.items) workers) refl (record {
     setup = s.setup;
     named = s.names;
+    areas = s.areas;
     workers = s.workers;
     hands = hands_kept r w s.known old.workers.items old.master.kept.names.next_id old.block i V.hands old.hands.items new.hands.items s.hands within change;
     files = s.files;

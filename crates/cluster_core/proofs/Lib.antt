@@ -9,6 +9,7 @@ pub mod HandStays
 pub mod Actors
 pub mod Sides
 pub mod Named
+pub mod AreaFacts
 pub mod Journaled
 pub mod Standing
 pub mod Crashed

@@ -53,6 +53,11 @@ use Rattle.cluster_core.proofs.Standing.{put_same, stands_by, stands_master, sta
 use Rattle.cluster_core.proofs.Rows.{all_put}
 use Rattle.std.specs.Option.{option_and_then}
 use Rattle.std.specs.Prelude.{is_some, Result, Ok, Err, OnOk}
+use Rattle.std.specs.Prelude.{IsErrOf}
+use Rattle.journal_disk.specs.Journaling.{Journaling}
+use Rattle.cluster_core.proofs.AreaFacts.{areas_entered, areas_stopped, standing_is, up_is}
+use Rattle.cluster_core.proofs.Journaled.{change_in_doubt}
+use Rattle.cluster_core.proofs.Entries.{mkdir_up}
 
 -- a file fits at any path
 pub file_anywhere : (K : Knowledge) (contents : List Content) (next bs : ℕ) (p q : Path) (k : Node) → FileFits K contents next bs (p, k) → FileFits K contents next bs (q, k)
@@ -77,17 +82,19 @@ module _ {D S R W : Type 0} {d : disks.Ghosts D} (o : objects.Ghosts S R W) (r :
     mkdir_short : Stays d old.master new.master → Steps d o r w old new who (Event.Mkdir p) (Reply.Refused Refusal.Memory)
     mkdir_short stays = λ U V s. goes_short o r w U old new V who (Event.Mkdir p) (stands_stays o r w U old new V s b k l stays) refl
 
-    mkdir_stops : HasStopped d 4 (entered (Entry.Mkdir p) (standing_of old.master)) old.master new.master → Steps d o r w old new who (Event.Mkdir p) (Reply.Refused Refusal.JournalFault)
-    mkdir_stops h = λ U V s.
+    mkdir_stops : counts_in (Entry.Mkdir p) (names_of old.master) ≡ true → HasStopped d 4 (entered (Entry.Mkdir p) (standing_of old.master)) old.master new.master → Steps d o r w old new who (Event.Mkdir p) (Reply.Refused Refusal.JournalFault)
+    mkdir_stops counts h = λ U V s.
+        let up = mkdir_up old.master p passes in
         let doubt : Option Doubt = Some (Doubt.InChange (Change.Mkdir p) []) in
         goes_stopped o r w U old new V who (Event.Mkdir p) noted_as 4 (stopped_with doubt new.master.journal.here.fuse V.body) (hands_of V who) (tests_are U V s ∙ sym passes) refl refl refl refl s.names h.cause h.goes_on.fuse refl refl
-        (stands_master o r w U old new V who (stopped_with doubt new.master.journal.here.fuse V.body).master s b k l h.goes_on.limit h.names (stopped_stand d old.master new.master V.body s.names 4 (entered (Entry.Mkdir p) (standing_of old.master)) doubt h))
+        (stands_master o r w U old new V who (stopped_with doubt new.master.journal.here.fuse V.body).master s b k l h.goes_on.limit h.names (stopped_stand d old.master new.master V.body s.names 4 (entered (Entry.Mkdir p) (standing_of old.master)) doubt h)
+        (areas_stopped d s.known V.body.contents old.block 4 (entered (Entry.Mkdir p) (standing_of old.master)) old.master new.master V.body.names (stopped_with doubt new.master.journal.here.fuse V.body).master s.areas.tell h (standing_is old.master V.body s.names up) (change_in_doubt old.master V.body (Change.Mkdir p) [] s.names up counts refl) refl tt))
 
     mkdir_done : Entered d (Entry.Mkdir p) old.master new.master → counts_in (Entry.Mkdir p) (names_of old.master) ≡ true → Steps d o r w old new who (Event.Mkdir p) Reply.Done
     mkdir_done h counts = λ U V s.
         let H = hands_of V who in
         let B = (mkdir_outcome V.body p).1 in
-        let named : NamesStand new.master B = entered_stand d old.master new.master V.body s.names (Change.Mkdir p) h counts refl s.names.unlocked in
+        let named : NamesStand new.master B = entered_stand d old.master new.master V.body s.names (Change.Mkdir p) (mkdir_up old.master p passes) h counts refl s.names.unlocked s.names.unseen in
         let is : names_of new.master ≡ apply (Change.Mkdir p) (names_of old.master) = sym named.names ∙ ap (apply (Change.Mkdir p)) s.names.names in
         record {
           after = put_back V who B H;
@@ -96,7 +103,8 @@ module _ {D S R W : Type 0} {d : disks.Ghosts D} (o : objects.Ghosts S R W) (r :
           stands = stands_by o r w U new (put_back V who B H) s.known old.block old.master.journal.limit new.master old.workers.items old.hands.items b h.goes_on.limit refl (ap (λ x. x.items) k) (ap (λ x. x.items) l) (record {
             setup = s.setup;
             named = named;
-            workers = record { rows = s.workers.rows; registrations = s.workers.registrations; first = s.workers.first };
+            areas = areas_entered d s.known B.contents old.block old.master new.master B.names B.master s.areas.tell h.goes_on h.later (standing_is new.master B named (ap (λ (j : Journaling D). j.failed) h.moved ∙ mkdir_up old.master p passes)) (s.areas.certain (up_is old.master V.body s.names (mkdir_up old.master p passes)));
+            workers = record { rows = s.workers.rows; registrations = s.workers.registrations; first = s.workers.first; one = s.workers.one };
             hands = subst (λ (N : Names). HandsStand r w s.known old.workers.items N.next_id old.block (set V.hands (pred who) H) old.hands.items) (sym is)
                 (subst (λ all. HandsStand r w s.known old.workers.items old.master.kept.names.next_id old.block all old.hands.items) (sym (set-get_or V.hands (pred who) [])) s.hands);
             files = subst (λ (N : Names). FilesStand s.known N.next_id old.block N.nodes V.body.contents) (sym is) (record {
@@ -116,11 +124,11 @@ module _ {D S R W : Type 0} {d : disks.Ghosts D} (o : objects.Ghosts S R W) (r :
         }
 
     -- whatever came of the entry
-    pub mkdir_steps : {T : Type 0} (result : Result T AppendFault) → Enters d (Entry.Mkdir p) old.master new.master result → OnOk result (counts_in (Entry.Mkdir p) (names_of old.master) ≡ true) → Steps d o r w old new who (Event.Mkdir p) (done_or result)
-    mkdir_steps (Ok u) h counts = mkdir_done h.done counts
-    mkdir_steps (Err faults.Failed) h counts = mkdir_stops (h.stopped refl)
-    mkdir_steps (Err faults.Memory) h counts = mkdir_short (h.short refl)
-    mkdir_steps (Err faults.Full) h counts = absurd (mkdir_room old.master p passes (h.full refl))
+    pub mkdir_steps : {T : Type 0} (result : Result T AppendFault) → Enters d (Entry.Mkdir p) old.master new.master result → OnOk result (counts_in (Entry.Mkdir p) (names_of old.master) ≡ true) → (IsErrOf result faults.Failed → counts_in (Entry.Mkdir p) (names_of old.master) ≡ true) → Steps d o r w old new who (Event.Mkdir p) (done_or result)
+    mkdir_steps (Ok u) h counts counted = mkdir_done h.done counts
+    mkdir_steps (Err faults.Failed) h counts counted = mkdir_stops (counted refl) (h.stopped refl)
+    mkdir_steps (Err faults.Memory) h counts counted = mkdir_short (h.short refl)
+    mkdir_steps (Err faults.Full) h counts counted = absurd (mkdir_room old.master p passes (h.full refl))
 
   -- ---- ls
 

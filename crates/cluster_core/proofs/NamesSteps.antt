@@ -63,7 +63,11 @@ flat halt N p rest = behind halt (None ∷ walk_fault (walk_above N.nodes p) ∷
 
 module _ {D : Type 0} (S : Setup) (m : Mastering D) (A : State) (H : Hands) (s : NamesStand m A) where
   pub mkdir_refusal : (p : Path) → S.area ≡ m.journal.limit → refusal S A H (Event.Mkdir p) ≡ mkdir_test m p
-  mkdir_refusal p area = rw (s.down, s.unlocked, nodes_are s, s.gate, area) (flat (stop_test m) m.kept.names p (past Which.Nodes (is_full m.kept.names) ∷ past Which.Area (is_short m (7 + path_len p)) ∷ []))
+  mkdir_refusal p area = by m.journal.failed refl
+    where
+      by : (b : Bool) → m.journal.failed ≡ b → refusal S A H (Event.Mkdir p) ≡ mkdir_test m p
+      by false up = rw (s.down, s.unlocked, nodes_are s, s.gate up, area) (flat (stop_test m) m.kept.names p (past Which.Nodes (is_full m.kept.names) ∷ past Which.Area (is_short m (7 + path_len p)) ∷ []))
+      by true down = rw (s.down, down) refl
 
   pub list_refusal : (p : Path) → refusal S A H (Event.List p) ≡ list_test m p
   list_refusal p = rw (s.down, s.unlocked, nodes_are s) (behind (stop_test m) (None ∷ walk_fault (walk_nodes m.kept.names.nodes p) ∷ refuse NotDirectory (is_some (option_and_then file_in (find_node m.kept.names.nodes p))) ∷ []) (walk_fault (walk_nodes m.kept.names.nodes p) ∷ refuse NotDirectory (is_some (option_and_then file_in (find_node m.kept.names.nodes p))) ∷ []) refl)
@@ -85,6 +89,12 @@ module _ {D : Type 0} (S : Setup) (m : Mastering D) (A : State) (H : Hands) (s :
   pub create_refusal : (l : Label) (p : Path) (kind : WriteType) (w : ℕ) → S.area ≡ m.journal.limit
       → refusal S A H (Event.Create l p kind w) ≡ create_test m (record { taken = has_label H l; labels = length H; worker = w; configured = is_configured S w; live = is_live A w }) p
   create_refusal l p kind w area =
-      let c : Circumstance = record { taken = has_label H l; labels = length H; worker = w; configured = is_configured S w; live = is_live A w } in
-      rw (s.down, s.unlocked, nodes_are s, s.gate, next_id_is s, area)
-      (behind (refuse BadLabel (has_label H l)) (stop_test m ∷ None ∷ walk_fault (walk_above m.kept.names.nodes p) ∷ refuse Exists (has_node m.kept.names p) ∷ create_rest c p) (stop_test m ∷ place_test m.kept.names p ∷ create_rest c p) (flat (stop_test m) m.kept.names p (create_rest c p)))
+      by m.journal.failed refl
+    where
+      c : Circumstance
+      c = record { taken = has_label H l; labels = length H; worker = w; configured = is_configured S w; live = is_live A w }
+
+      by : (b : Bool) → m.journal.failed ≡ b → refusal S A H (Event.Create l p kind w) ≡ create_test m c p
+      by true down = rw (s.down, down) (behind (refuse BadLabel (has_label H l)) _ _ refl)
+      by false up = rw (s.down, s.unlocked, nodes_are s, s.gate up, next_id_is s, area)
+          (behind (refuse BadLabel (has_label H l)) (stop_test m ∷ None ∷ walk_fault (walk_above m.kept.names.nodes p) ∷ refuse Exists (has_node m.kept.names p) ∷ create_rest c p) (stop_test m ∷ place_test m.kept.names p ∷ create_rest c p) (flat (stop_test m) m.kept.names p (create_rest c p)))

@@ -64,6 +64,7 @@ use Rattle.cluster_core.proofs.StreamsGo.{sets_same, stays_kept, block_number, g
 use Rattle.cluster_core.proofs.SourceFacts.{file_kept, missing_file, stopped_first, next_refusal_is, unwanted, wanted_one, refusal_at, sources_are}
 use Rattle.cluster_core.proofs.TierReads.{told_stands, nodes_changed, all_used, used_row, same_row, used_rooms, same_rooms, leaves_rooms}
 use Rattle.cluster_core.proofs.BlockReads.{left_is, ends_within, rest_of_block, number_is, copy_there, block_is, Object, range_left, then_rose}
+use Rattle.cluster_core.specs.AreasStand.{AreasStand}
 
 -- ---- a core that stands
 
@@ -73,6 +74,7 @@ workers_as nodes A B rows registrations s = record {
   rows = rows ∙ s.rows;
   registrations = registrations ∙ s.registrations;
   first = λ v runs. s.first v (ap (λ ws. nat_lt 0 v && (get_or ws (pred v) no_worker).running) (sym rows) ∙ runs);
+  one = λ some. ap (λ ws. (get_or ws 0 no_worker).running) rows ∙ s.one (subst (λ ws. 0 < length ws) rows some);
 }
 
 -- no label changes, at workers that leave what labels rest on
@@ -130,11 +132,12 @@ module _ {D S R W : Type 0} {d : disks.Ghosts D} (o : objects.Ghosts S R W) (r :
       by_broken false = refl
 
   -- the core with another hand of the label, and perhaps other workers
-  stands_with : (B : State) (t u : Hand R W) (k h : machine.Hand) → SetupFits U old.block old.master.journal.limit new.workers.items → NamesStand old.master B → WorkersStand new.workers.items B → B.contents ≡ V.body.contents → Leaves (suc i, l) s.known s.known old.workers.items new.workers.items old.master.kept.names.next_id old.master.kept.names.next_id → NodesStand o s.known old.master.kept.names.next_id old.block new.workers.items
+  stands_with : (B : State) (t u : Hand R W) (k h : machine.Hand) → SetupFits U old.block old.master.journal.limit new.workers.items → NamesStand old.master B → AreasStand d s.known V.body.contents old.block old.master B.names B.master → WorkersStand new.workers.items B → B.contents ≡ V.body.contents → Leaves (suc i, l) s.known s.known old.workers.items new.workers.items old.master.kept.names.next_id old.master.kept.names.next_id → NodesStand o s.known old.master.kept.names.next_id old.block new.workers.items
       → hand_at (hands_of V (suc i)) l ≡ Some k → ChangesAt old.hands.items new.hands.items i (SetsHand l t u) → Fits r w s.known new.workers.items old.master.kept.names.next_id old.block (suc i, l) h u → Stands d o r w U new (put_back V (suc i) B (set_hand l h (hands_of V (suc i))))
-  stands_with B t u k h setup named workers contents left nodes at hands fits = stands_by o r w U new (put_back V (suc i) B (set_hand l h (hands_of V (suc i)))) s.known old.block old.master.journal.limit old.master new.workers.items new.hands.items rest.block (ap (λ k. k.journal.limit) rest.master) rest.master refl refl (record {
+  stands_with B t u k h setup named areas workers contents left nodes at hands fits = stands_by o r w U new (put_back V (suc i) B (set_hand l h (hands_of V (suc i)))) s.known old.block old.master.journal.limit old.master new.workers.items new.hands.items rest.block (ap (λ k. k.journal.limit) rest.master) rest.master refl refl (record {
     setup = setup;
     named = named;
+    areas = subst (λ cs. AreasStand d s.known cs old.block old.master B.names B.master) (sym contents) areas;
     workers = workers;
     hands = hands_set r w s.known s.known old.workers.items new.workers.items old.master.kept.names.next_id old.master.kept.names.next_id old.block i l left V.hands old.hands.items new.hands.items s.hands within t u k h at hands fits;
     files = subst (λ cs. Rattle.cluster_core.specs.Stands.FilesStand s.known old.master.kept.names.next_id old.block old.master.kept.names.nodes cs) (sym contents) s.files;
@@ -190,7 +193,8 @@ module _ {D S R W : Type 0} {d : disks.Ghosts D} (o : objects.Ghosts S R W) (r :
           made = None;
           stands = stands_with B (Hand.Reading x) (Hand.Reading y) (machine.Hand.Reading m) (machine.Hand.Reading (bare m))
               (subst (λ ns. SetupFits U old.block old.master.journal.limit ns) (sym workers) s.setup)
-              (record { names = s.names.names; gate = s.names.gate; generation = s.names.generation; fuse = s.names.fuse; down = s.names.down; unlocked = s.names.unlocked })
+              (record { names = s.names.names; gate = s.names.gate; generation = s.names.generation; fuse = s.names.fuse; down = s.names.down; unlocked = s.names.unlocked; unseen = s.names.unseen })
+              s.areas
               (workers_as new.workers.items V.body B refl refl (subst (λ ns. WorkersStand ns V.body) (sym workers) s.workers))
               refl
               (subst (λ ns. Leaves (suc i, l) s.known s.known old.workers.items ns old.master.kept.names.next_id old.master.kept.names.next_id) (sym workers) (leaves_all (suc i, l) s.known old.workers.items old.master.kept.names.next_id))
@@ -330,6 +334,7 @@ module _ {D S R W : Type 0} {d : disks.Ghosts D} (o : objects.Ghosts S R W) (r :
           tried_stands = stands_by o r w U new V s.known old.block old.master.journal.limit old.master new.workers.items new.hands.items rest.block (ap (λ k. k.journal.limit) rest.master) rest.master refl refl (record {
             setup = setup_stays (λ W. W) old.workers.items new.workers.items 1 rows_same s.setup;
             named = s.names;
+            areas = s.areas;
             workers = workers_as new.workers.items (change_worker 1 (λ W. W) V.body) V.body (sym (set-get_or V.body.workers 0 no_worker)) refl (workers_change (λ W. W) old.workers.items new.workers.items 1 rows_same V.body s.workers);
             hands = hands_still r w s.known old.workers.items new.workers.items old.master.kept.names.next_id old.block i l (leaves_from (fixed (KeepsRooms c.number) old.workers.items new.workers.items 0 n n' was is change (same_rooms c.number n n' tried.same))) V.hands old.hands.items new.hands.items s.hands within (kept_hands same);
             files = s.files;
@@ -420,7 +425,8 @@ module _ {D S R W : Type 0} {d : disks.Ghosts D} (o : objects.Ghosts S R W) (r :
           opened_stands : Stands d o r w U new (put_back V (suc i) B (set_hand l (machine.Hand.Reading k_on) H))
           opened_stands = stands_with B (Hand.Reading x) (Hand.Reading y) (machine.Hand.Reading m) (machine.Hand.Reading k_on)
               (setup_stays uses old.workers.items new.workers.items 1 rows_used s.setup)
-              (record { names = s.names.names; gate = s.names.gate; generation = s.names.generation; fuse = s.names.fuse; down = s.names.down; unlocked = s.names.unlocked })
+              (record { names = s.names.names; gate = s.names.gate; generation = s.names.generation; fuse = s.names.fuse; down = s.names.down; unlocked = s.names.unlocked; unseen = s.names.unseen })
+              s.areas
               (workers_as new.workers.items (change_worker 1 uses V.body) B workers_b refl (workers_change uses old.workers.items new.workers.items 1 rows_used V.body s.workers))
               refl
               (leaves_from (fixed (KeepsRooms c.number) old.workers.items new.workers.items 0 n n' was is change (used_rooms c.number n n' opens.used)) (suc i, l))

@@ -7,7 +7,7 @@ use Rattle.std.proofs.lemmas.Option.{unwrap_or-slice_get, slice_get-map, slice_g
 use Rattle.fs_model.specs.declared.setup.Setup.{Setup}
 use Rattle.fs_model.specs.Words.{update_at}
 use Rattle.fs_model.specs.State.{State, Worker}
-use Rattle.fs_model.specs.Lookups.{no_worker, worker}
+use Rattle.fs_model.specs.Lookups.{is_running, no_worker, worker}
 use Rattle.fs_model.specs.Updates.{change_worker}
 use Rattle.cluster_core.specs.declared.node.Node.{Node}
 use Rattle.cluster_core.specs.Nodes.{node_row, registration_of}
@@ -119,8 +119,13 @@ module _ {S : Type 0} where
         record {
           rows = rows;
           registrations = s.registrations ∙ sym (maps_stay registration_of (record { known = false; awaited = false; silence = 0 }) old new (pred w) (changes_by old new (pred w) change registered_as));
-          first = λ v runs. s.first v (ap (λ b. nat_lt 0 v && b) (ap (λ (k : Worker). k.running) (worker_at A old v s.rows) ∙ sym (same_runs v) ∙ sym (ap (λ (k : Worker). k.running) (worker_at (change_worker w f A) new v rows))) ∙ runs);
+          first = λ v runs. s.first v (same v rows ∙ runs);
+          one = λ some. sym (same 1 rows) ∙ s.one (subst (λ n. 0 < n) (length-set A.workers (pred w) (f (get_or A.workers (pred w) no_worker))) some);
         }
+      where
+        -- each worker runs as it did
+        same : (v : ℕ) → (change_worker w f A).workers ≡ map node_row new → is_running A v ≡ is_running (change_worker w f A) v
+        same v rows = ap (λ b. nat_lt 0 v && b) (ap (λ (k : Worker). k.running) (worker_at A old v s.rows) ∙ sym (same_runs v) ∙ sym (ap (λ (k : Worker). k.running) (worker_at (change_worker w f A) new v rows)))
 
     pub setup_stays : {U : Setup} {bs area : ℕ} → SetupFits U bs area old → SetupFits U bs area new
     setup_stays s = record { block = s.block; area = s.area; tiers = s.tiers ∙ sym (maps_stay sizes_of [] old new (pred w) (changes_by old new (pred w) change (λ a b c. c.sizes))) }

@@ -43,7 +43,7 @@ use Rattle.cluster_core.specs.HandChanges.{AddsHand, KeepsHands}
 use Rattle.cluster_core.specs.HandFits.{HandFits, StreamFits}
 use Rattle.cluster_core.specs.Knowledge.{Knowledge}
 use Rattle.cluster_core.specs.Kept.{KeepsRest}
-use Rattle.cluster_core.specs.Stands.{Stands, HandsStand, FileFits, DoneFits, content_row, sizes_of}
+use Rattle.cluster_core.specs.Stands.{Stands, HandsStand, FileFits, DoneFits, sizes_of}
 use Rattle.cluster_core.specs.Goes.{Steps, Rises, no_rise}
 use Rattle.cluster_core.specs.declared.cluster.Core.{Core}
 use Rattle.cluster_core.specs.declared.hand.Hand.{Hand}
@@ -55,6 +55,7 @@ use Rattle.cluster_core.proofs.Rows.{node_of_all}
 use Rattle.cluster_core.proofs.Standing.{stands_by, goes_refused, goes_short}
 use Rattle.cluster_core.proofs.Labelled.{hands_added, absent_at, leaves_all}
 use Rattle.cluster_core.proofs.CloseGo.{by_actor}
+use Rattle.cluster_core.specs.AreasStand.{content_row}
 
 -- ---- the tests
 
@@ -195,6 +196,7 @@ module _ {D S R W : Type 0} {d : disks.Ghosts D} (o : objects.Ghosts S R W) (r :
   short_at rest workers hands = λ U V s. goes_short o r w U old new V (suc i) (Event.OpenFile l p ReadType.NoCache v) (stands_by o r w U new V s.known old.block old.master.journal.limit old.master old.workers.items new.hands.items rest.block (ap (λ k. k.journal.limit) rest.master) rest.master (ap (λ x. x.items) workers) refl (record {
     setup = s.setup;
     named = s.names;
+    areas = s.areas;
     workers = s.workers;
     hands = hands_kept r w s.known old.workers.items old.master.kept.names.next_id old.block i V.hands old.hands.items new.hands.items s.hands within hands;
     files = s.files;
@@ -241,6 +243,7 @@ module _ {D S R W : Type 0} {d : disks.Ghosts D} (o : objects.Ghosts S R W) (r :
         stands = stands_by o r w U new after s.known old.block old.master.journal.limit old.master old.workers.items new.hands.items rest.block (ap (λ k. k.journal.limit) rest.master) rest.master (ap (λ x. x.items) workers) refl (record {
           setup = s.setup;
           named = s.names;
+          areas = s.areas;
           workers = s.workers;
           hands = hands_added r w s.known s.known old.workers.items old.workers.items old.master.kept.names.next_id old.master.kept.names.next_id old.block i l (leaves_all (suc i, l) s.known old.workers.items old.master.kept.names.next_id) V.hands old.hands.items new.hands.items s.hands within (Hand.Reading (record { file = f.id; len = f.len; at = 0; worker = v; source = None })) (machine.Hand.Reading m) (absent_at r w s.known old.workers.items old.master.kept.names.next_id old.block V.hands old.hands.items s.hands i within l (add_absent i l (Hand.Reading (record { file = f.id; len = f.len; at = 0; worker = v; source = None })) old.hands.items new.hands.items hands)) hands fits;
           files = s.files;

@@ -55,6 +55,8 @@ use Rattle.cluster_core.proofs.KeptHands.{hands_kept}
 use Rattle.cluster_core.proofs.RoomTests.{wanted_by}
 use Rattle.cluster_core.proofs.StreamsGo.{tier_rose}
 use Rattle.cluster_core.proofs.CloseGo.{by_actor}
+use Rattle.cluster_core.proofs.AreaFacts.{areas_known}
+use Rattle.cluster_core.proofs.Named.{next_id_is}
 
 -- ---- made bytes
 
@@ -323,6 +325,7 @@ module _ {D S R W : Type 0} {d : disks.Ghosts D} (o : objects.Ghosts S R W) (r :
   stands_still kept = stands_by o r w U new V s.known old.block old.master.journal.limit old.master old.workers.items new.hands.items rest.block (ap (λ k. k.journal.limit) rest.master) rest.master (ap (λ x. x.items) workers) refl (record {
     setup = s.setup;
     named = s.names;
+    areas = s.areas;
     workers = s.workers;
     hands = hands_kept r w s.known old.workers.items old.master.kept.names.next_id old.block i V.hands old.hands.items new.hands.items s.hands within kept;
     files = s.files;
@@ -391,6 +394,7 @@ module _ {D S R W : Type 0} {d : disks.Ghosts D} (o : objects.Ghosts S R W) (r :
           stands = stands_by o r w U new after N old.block old.master.journal.limit old.master nodes new.hands.items rest.block (ap (λ k. k.journal.limit) rest.master) rest.master (ap (λ v. v.items) workers) refl (record {
             setup = s.setup;
             named = s.names;
+            areas = areas_known d s.known N V.body.contents old.block old.master V.body.names V.body.master (λ id few. (done_put s.known m.file next holder m.taken piece (writes_whole s.known m.file (suc i, l) x.broken fits.author whole) fits.bytes).files id (subst (λ k. id < k) (next_id_is s.names) few)) s.areas;
             workers = s.workers;
             hands = hands_set r w s.known N nodes nodes next next old.block i l (leaves_put s.known m.file next holder m.taken piece (writes_whole s.known m.file (suc i, l) x.broken fits.author whole) fits.bytes nodes) V.hands old.hands.items new.hands.items s.hands within (Hand.Writing x) (Hand.Writing y) (machine.Hand.Writing m) (machine.Hand.Writing k) at hands
                 (took_fits w s.known nodes next old.block holder m x y fits piece few whole t);
@@ -432,6 +436,7 @@ module _ {D S R W : Type 0} {d : disks.Ghosts D} (o : objects.Ghosts S R W) (r :
           stands = stands_by o r w U new after s.known old.block old.master.journal.limit old.master nodes new.hands.items rest.block (ap (λ k. k.journal.limit) rest.master) rest.master (ap (λ z. z.items) workers) refl (record {
             setup = s.setup;
             named = s.names;
+            areas = s.areas;
             workers = s.workers;
             hands = hands_set r w s.known s.known nodes nodes next next old.block i l (leaves_all holder s.known nodes next) V.hands old.hands.items new.hands.items s.hands within (Hand.Writing x) (Hand.Writing y) (machine.Hand.Writing m) (machine.Hand.Writing k) at hands
                 (broke_fits w s.known nodes next old.block holder m x y fits b);

@@ -50,6 +50,7 @@ use Rattle.cluster_core.proofs.CommitParts.{without_owner}
 use Rattle.cluster_core.proofs.ClosedBlock.{AfterCommit, after_commit, closed_fits, broken_fits}
 use Rattle.cluster_core.proofs.RoomGo.{five_pass, not_refused, is_true, there_some, writer_is, refusal_is}
 use Rattle.cluster_core.proofs.StreamsGo.{tier_rose}
+use Rattle.cluster_core.proofs.AreaFacts.{areas_known}
 
 -- an owner says nothing of files
 pub same_files : (K : Knowledge) (e : Option ℕ) (v : ℕ) (id : ℕ) → ((without_owner v e K).bytes_of id ≡ K.bytes_of id) × ((without_owner v e K).author id ≡ K.author id)
@@ -162,8 +163,9 @@ module _ {D S R W : Type 0} {d : disks.Ghosts D} (o : objects.Ghosts S R W) (r :
         made = None;
         stands = stands_by o r w U new after after_known was.block was.master.journal.limit was.master new.workers.items new.hands.items rest.block (ap (λ k. k.journal.limit) rest.master) rest.master refl refl (record {
           setup = parts.setup;
-          named = record { names = s.names.names; gate = s.names.gate; generation = s.names.generation; fuse = s.names.fuse; down = s.names.down; unlocked = s.names.unlocked };
-          workers = record { rows = parts.workers.rows; registrations = parts.workers.registrations; first = parts.workers.first };
+          named = record { names = s.names.names; gate = s.names.gate; generation = s.names.generation; fuse = s.names.fuse; down = s.names.down; unlocked = s.names.unlocked; unseen = s.names.unseen };
+          areas = areas_known d s.known after_known V.body.contents was.block was.master V.body.names V.body.master (λ id few none. ((same_files s.known x.room x.worker id).0, (same_files s.known x.room x.worker id).1 ∙ none)) s.areas;
+          workers = record { rows = parts.workers.rows; registrations = parts.workers.registrations; first = parts.workers.first; one = parts.workers.one };
           hands = hands_set r w s.known after_known was.workers.items new.workers.items was.master.kept.names.next_id was.master.kept.names.next_id was.block i l parts.leaves V.hands was.hands.items new.hands.items s.hands within (Hand.Writing x) (Hand.Writing (closed_writer false x)) (machine.Hand.Writing m) (machine.Hand.Writing k) at hands (closed_fits w s.known after_known was.workers.items new.workers.items was.master.kept.names.next_id was.block (suc i, l) m x f whole known.0 known.1 wanted);
           files = files_owned s.known x.room x.worker was.master.kept.names.next_id was.block was.master.kept.names.nodes V.body.contents s.files;
           objects = parts.nodes_stand;
@@ -207,8 +209,9 @@ module _ {D S R W : Type 0} {d : disks.Ghosts D} (o : objects.Ghosts S R W) (r :
         made = None;
         stands = stands_by o r w U new after after_known was.block was.master.journal.limit was.master new.workers.items new.hands.items rest.block (ap (λ k. k.journal.limit) rest.master) rest.master refl refl (record {
           setup = parts.setup;
-          named = record { names = s.names.names; gate = s.names.gate; generation = s.names.generation; fuse = s.names.fuse; down = s.names.down; unlocked = s.names.unlocked };
-          workers = record { rows = parts.workers.rows; registrations = parts.workers.registrations; first = parts.workers.first };
+          named = record { names = s.names.names; gate = s.names.gate; generation = s.names.generation; fuse = s.names.fuse; down = s.names.down; unlocked = s.names.unlocked; unseen = s.names.unseen };
+          areas = areas_known d s.known after_known V.body.contents was.block was.master V.body.names V.body.master (λ id few none. ((same_files s.known x.room x.worker id).0, (same_files s.known x.room x.worker id).1 ∙ none)) s.areas;
+          workers = record { rows = parts.workers.rows; registrations = parts.workers.registrations; first = parts.workers.first; one = parts.workers.one };
           hands = hands_set r w s.known after_known was.workers.items new.workers.items was.master.kept.names.next_id was.master.kept.names.next_id was.block i l parts.leaves V.hands was.hands.items new.hands.items s.hands within (Hand.Writing x) (Hand.Writing (closed_writer true x)) (machine.Hand.Writing m) (machine.Hand.Writing left) at hands (broken_fits w s.known after_known was.workers.items new.workers.items was.master.kept.names.next_id was.block (suc i, l) m x f whole known.0 known.1);
           files = files_owned s.known x.room x.worker was.master.kept.names.next_id was.block was.master.kept.names.nodes V.body.contents s.files;
           objects = parts.nodes_stand;

@@ -89,6 +89,7 @@ use Rattle.std.specs.Prelude.{IsSome}
 use Rattle.inode_tree.specs.Rows.{file_row}
 use Rattle.fs_model.specs.BytesEvents.{writer_stands}
 use Rattle.cluster_core.proofs.LostBlock.{lost_known, lost_rows, lost_leaves, lost_nodes, lost_rose, lost_tier}
+use Rattle.cluster_core.proofs.AreaFacts.{areas_known}
 
 module _ {D S R W : Type 0} {d : disks.Ghosts D} (o : objects.Ghosts S R W) (r : reads.Ghosts R) (w : writes.Ghosts W) (was new : Core D S R W d w) (l : Label) (i : ℕ) (within : i < 64) (x : Writer W) (whole : x.broken ≡ false) (U : Setup) (V : Whole) (s : Stands d o r w U was V) (m : machine.Writer) (at : hand_at (hands_of V (suc i)) l ≡ Some (machine.Hand.Writing m)) (f : WriterFits w s.known was.workers.items was.master.kept.names.next_id was.block (suc i, l) m x) (rest : KeepsRest was new) (passes : room_test was.master was.workers.items was.block x ≡ None) (wanted : wants_room x.bytes ≡ true) where
   -- the worker's node
@@ -298,8 +299,9 @@ module _ {D S R W : Type 0} {d : disks.Ghosts D} (o : objects.Ghosts S R W) (r :
               made = None;
               stands = stands_by o r w U new after (opened_known k) was.block was.master.journal.limit was.master new.workers.items new.hands.items rest.block (ap (λ k. k.journal.limit) rest.master) rest.master refl refl (record {
                 setup = setup_stays (with_room tier.0 [] x.bytes.bs) mid new.workers.items x.worker rows parts.setup;
-                named = record { names = s.names.names; gate = s.names.gate; generation = s.names.generation; fuse = s.names.fuse; down = s.names.down; unlocked = s.names.unlocked };
-                workers = record { rows = workers_after.rows; registrations = workers_after.registrations; first = workers_after.first };
+                named = record { names = s.names.names; gate = s.names.gate; generation = s.names.generation; fuse = s.names.fuse; down = s.names.down; unlocked = s.names.unlocked; unseen = s.names.unseen };
+                areas = areas_known d s.known (opened_known k) V.body.contents was.block was.master V.body.names V.body.master (λ id few none. ((same_files s.known x.room x.worker id).0, (same_files s.known x.room x.worker id).1 ∙ none)) s.areas;
+                workers = record { rows = workers_after.rows; registrations = workers_after.registrations; first = workers_after.first; one = workers_after.one };
                 hands = hands_set r w s.known (opened_known k) was.workers.items new.workers.items was.master.kept.names.next_id was.master.kept.names.next_id was.block i l leaves_after V.hands was.hands.items new.hands.items s.hands within (Hand.Writing x) (Hand.Writing y) (machine.Hand.Writing m) (machine.Hand.Writing next_writer) at hands fits_next;
                 files = files_given (without_owner x.worker x.room s.known) (suc (pred x.worker)) k (suc i, l) was.master.kept.names.next_id was.block was.master.kept.names.nodes V.body.contents (files_owned s.known x.room x.worker was.master.kept.names.next_id was.block was.master.kept.names.nodes V.body.contents s.files);
                 objects = nodes_after;
@@ -371,8 +373,9 @@ module _ {D S R W : Type 0} {d : disks.Ghosts D} (o : objects.Ghosts S R W) (r :
           made = None;
           stands = stands_by o r w U new after (lost_known o r w was new l i x whole U V s m f it_stands runs_it its_file n reserved lost) was.block was.master.journal.limit was.master new.workers.items new.hands.items rest.block (ap (λ k. k.journal.limit) rest.master) rest.master refl refl (record {
             setup = setup_stays (room_to_litter n) was.workers.items new.workers.items m.worker (lost_rows o r w was new l i x whole U V s m f it_stands runs_it its_file n reserved lost) s.setup;
-            named = record { names = s.names.names; gate = s.names.gate; generation = s.names.generation; fuse = s.names.fuse; down = s.names.down; unlocked = s.names.unlocked };
-            workers = record { rows = workers.rows; registrations = workers.registrations; first = workers.first };
+            named = record { names = s.names.names; gate = s.names.gate; generation = s.names.generation; fuse = s.names.fuse; down = s.names.down; unlocked = s.names.unlocked; unseen = s.names.unseen };
+            areas = areas_known d s.known (lost_known o r w was new l i x whole U V s m f it_stands runs_it its_file n reserved lost) V.body.contents was.block was.master V.body.names V.body.master (λ id few none. (refl, none)) s.areas;
+            workers = record { rows = workers.rows; registrations = workers.registrations; first = workers.first; one = workers.one };
             hands = hands_set r w s.known (lost_known o r w was new l i x whole U V s m f it_stands runs_it its_file n reserved lost) was.workers.items new.workers.items was.master.kept.names.next_id was.master.kept.names.next_id was.block i l (lost_leaves o r w was new l i x whole U V s m f it_stands runs_it its_file n reserved lost) V.hands was.hands.items new.hands.items s.hands within (Hand.Writing x) (Hand.Writing (closed_writer true x)) (machine.Hand.Writing m) (machine.Hand.Writing k) at hands (broken_fits w s.known (lost_known o r w was new l i x whole U V s m f it_stands runs_it its_file n reserved lost) was.workers.items new.workers.items was.master.kept.names.next_id was.block (suc i, l) m x f whole refl refl);
             files = files_owned s.known (Some n) x.worker was.master.kept.names.next_id was.block was.master.kept.names.nodes V.body.contents s.files;
             objects = (lost_nodes o r w was new l i x whole U V s m f it_stands runs_it its_file n reserved lost);

@@ -2,12 +2,21 @@
 use Rattle.std.proofs.Common.{◌≡◌, Bool, true, false, refl, ap, ◌∙◌}
 use Rattle.outside.specs.declared.disk.Disk as disks
 use Rattle.journal_disk.specs.Areas.{first_of, second_of}
-use Rattle.journal_disk.specs.Journaling.{Journaling, StaysAs, area_0, area_1}
+use Rattle.outside.specs.Fuse.{Fusing}
+use Rattle.journal_disk.specs.Journaling.{Journaling, StaysAs, area_0, area_1, fused_0, fused_1}
 
 -- what is the same of the current area and of the other is the same of area 0 and of area 1
 sides : {D A : Type 0} (f : D → A) (second : Bool) (h t k u : D) → f k ≡ f h → f u ≡ f t → (f (first_of second k u) ≡ f (first_of second h t)) × (f (second_of second k u) ≡ f (second_of second h t))
 sides f true h t k u here there = (there, here)
 sides f false h t k u here there = (here, there)
+
+-- the disk of an area that may have a fuse is that of the area
+pub fused_sides : {D : Type 0} (j : Journaling D) → ((fused_0 j).disk ≡ area_0 j) × ((fused_1 j).disk ≡ area_1 j)
+fused_sides {D} j = by j.second j.here j.there
+  where
+    by : (second : Bool) (h t : Fusing D) → ((first_of second h t).disk ≡ first_of second h.disk t.disk) × ((second_of second h t).disk ≡ second_of second h.disk t.disk)
+    by true h t = (refl, refl)
+    by false h t = (refl, refl)
 
 module _ {D : Type 0} (d : disks.Ghosts D) {old new : Journaling D} (h : StaysAs d old new) where
   -- so it is of what is told of each

@@ -68,6 +68,7 @@ module _ {D S R W : Type 0} {d : disks.Ghosts D} (o : objects.Ghosts S R W) (r :
   stays_kept hands = stands_by o r w U new V s.known old.block old.master.journal.limit old.master old.workers.items new.hands.items rest.block (ap (λ k. k.journal.limit) rest.master) rest.master workers refl (record {
     setup = s.setup;
     named = s.names;
+    areas = s.areas;
     workers = s.workers;
     hands = hands_kept r w s.known old.workers.items old.master.kept.names.next_id old.block i V.hands old.hands.items new.hands.items s.hands within hands;
     files = s.files;
@@ -79,6 +80,7 @@ module _ {D S R W : Type 0} {d : disks.Ghosts D} (o : objects.Ghosts S R W) (r :
   stays_set t u k h at hands fits = stands_by o r w U new (put_back V (suc i) V.body (set_hand l h (hands_of V (suc i)))) s.known old.block old.master.journal.limit old.master old.workers.items new.hands.items rest.block (ap (λ k. k.journal.limit) rest.master) rest.master workers refl (record {
     setup = s.setup;
     named = s.names;
+    areas = s.areas;
     workers = s.workers;
     hands = hands_set r w s.known s.known old.workers.items old.workers.items old.master.kept.names.next_id old.master.kept.names.next_id old.block i l (leaves_all (suc i, l) s.known old.workers.items old.master.kept.names.next_id) V.hands old.hands.items new.hands.items s.hands within t u k h at hands fits;
     files = s.files;

@@ -7,6 +7,8 @@ pub mod Causes
 pub mod Steady
 pub mod Names
 pub mod NamesStand
+pub mod Knowledge
+pub mod AreasStand
 pub mod Entering
 pub mod Tests
 pub mod Tiers
@@ -15,7 +17,6 @@ pub mod HandChanges
 pub mod Here
 pub mod Kept
 pub mod Reserved
-pub mod Knowledge
 pub mod HandFits
 pub mod Stands
 pub mod Goes

@@ -12,6 +12,7 @@ use Rattle.outside.specs.declared.objects.Objects as objects
 use Rattle.outside.specs.declared.objects.ObjectRead as reads
 use Rattle.outside.specs.declared.objects.ObjectWrite as writes
 use Rattle.cluster_core.specs.NamesStand.{NamesStand}
+use Rattle.cluster_core.specs.AreasStand.{AreasStand, content_row}
 use Rattle.cluster_core.specs.Nodes.{node_row, registration_of}
 use Rattle.cluster_core.specs.Tiers.{object_key}
 use Rattle.cluster_core.specs.LabelsView.{LabelsView}
@@ -36,11 +37,12 @@ pub record SetupFits {S : Type 0} (U : Setup) (bs bytes : ℕ) (nodes : List (No
 
 -- ---- workers
 
--- the workers are the core's, and those that run are known; until a script starts workers, no other than the first runs
+-- the workers are the core's, and those that run are known; until a script starts workers, the first runs and no other
 pub record WorkersStand {S : Type 0} (nodes : List (Node S)) (A : State) : Type 0 where
   pub rows : A.workers ≡ map node_row nodes
   pub registrations : A.registrations ≡ map registration_of nodes
   pub first : (w : ℕ) → is_running A w ≡ true → w ≡ 1
+  pub one : 0 < length A.workers → is_running A 1 ≡ true
 
 -- ---- labels
 
@@ -50,10 +52,6 @@ pub record HandsStand {S R W : Type 0} (r : reads.Ghosts R) (w : writes.Ghosts W
   pub each : (i : ℕ) → i < 64 → IsSomeAnd (slice_get labels i) (Matches (λ l. HandFits r w K nodes next bs (suc i, l)) (get_or all i []))
 
 -- ---- files
-
--- what is kept of the bytes of a file
-abbrev pub content_row : List Content → ℕ → Option Content
-content_row contents id = find (λ c. nat_eq c.file id) contents
 
 -- the bytes of a done file are kept, and it has so many; nobody writes it
 pub record DoneFits (K : Knowledge) (contents : List Content) (bs : ℕ) (f : File) : Type 0 where
@@ -116,6 +114,7 @@ pub record Stands {D S R W : Type 0} (d : disks.Ghosts D) (o : objects.Ghosts S 
   pub known : Knowledge
   pub setup : SetupFits U C.block C.master.journal.limit C.workers.items
   pub names : NamesStand C.master V.body
+  pub areas : AreasStand d known V.body.contents C.block C.master V.body.names V.body.master
   pub workers : WorkersStand C.workers.items V.body
   pub hands : HandsStand r w known C.workers.items C.master.kept.names.next_id C.block V.hands C.hands.items
   pub files : FilesStand known C.master.kept.names.next_id C.block C.master.kept.names.nodes V.body.contents

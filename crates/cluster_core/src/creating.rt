@@ -120,6 +120,7 @@ impl<D: Disk, O: Objects> Core<D, O, O::Reader, O::Writer> {
         ensures short { IsErrOf result Memory → Stays D.Disk self.old.master self.new.master }
         ensures full { IsErrOf result Full → self.old.master.journal.limit < self.old.master.journal.gate + 2 + length (entry_text (Entry.Create (names_of self.old.master).next_id path.now)) }
         ensures counts { OnOk result (counts_in (Entry.Create (names_of self.old.master).next_id path.now) (names_of self.old.master) ≡ true) }
+        ensures counted { IsErrOf result Failed → counts_in (Entry.Create (names_of self.old.master).next_id path.now) (names_of self.old.master) ≡ true }
         ensures id { IfOk result (λ id. id ≡ (names_of self.old.master).next_id) }
         ensures block { self.new.block ≡ self.old.block }
         ensures workers { self.new.workers ≡ self.old.workers }
@@ -148,6 +149,7 @@ impl<D: Disk, O: Objects> Core<D, O, O::Reader, O::Writer> {
         ensures short { IsErrOf result Memory → Stays D.Disk self.old.master self.new.master }
         ensures full { IsErrOf result Full → self.old.master.journal.limit < self.old.master.journal.gate + 2 + length (entry_text (Entry.Create (names_of self.old.master).next_id path.now)) }
         ensures counts { OnOk result (counts_in (Entry.Create (names_of self.old.master).next_id path.now) (names_of self.old.master) ≡ true) }
+        ensures counted { IsErrOf result Failed → counts_in (Entry.Create (names_of self.old.master).next_id path.now) (names_of self.old.master) ≡ true }
         ensures block { self.new.block ≡ self.old.block }
         ensures workers { self.new.workers ≡ self.old.workers }
         ensures stores { self.new.stores ≡ self.old.stores }

@@ -60,6 +60,7 @@ impl<D: Disk, O: Objects> Core<D, O, O::Reader, O::Writer> {
         ensures short { IsErrOf result Memory → Stays D.Disk self.old.master self.new.master }
         ensures full { IsErrOf result Full → self.old.master.journal.limit < self.old.master.journal.gate + 2 + length (entry_text (Entry.Mkdir path.now)) }
         ensures counts { OnOk result (counts_in (Entry.Mkdir path.now) (names_of self.old.master) ≡ true) }
+        ensures counted { IsErrOf result Failed → counts_in (Entry.Mkdir path.now) (names_of self.old.master) ≡ true }
         ensures block { self.new.block ≡ self.old.block }
         ensures workers { self.new.workers ≡ self.old.workers }
         ensures hands { self.new.hands ≡ self.old.hands }

@@ -21,13 +21,13 @@ returns-in-Some-clause-steps g c = refused_by g.O.Objects g.O.Reader.ObjectRead 
 pub returns-in-Ok-clause-steps : goal.returns-in-Ok-clause-steps
 returns-in-Ok-clause-steps g c =
     let made = c.in-Ok.ensures in
-    create_steps g.O.Objects g.O.Reader.ObjectRead g.O.Writer.ObjectWrite c.args.self.now c.args.actor c.requires.actor c.args.label.now c.args.path.now c.args.worker c.make_writer.new.self made.block made.workers c.requires.some c.in_default.ensures (Ok c.in-Ok.field-0) (record { done = made.done; stopped = made.stopped; short = made.short; full = made.full }) made.counts made.hands made.same_hands
+    create_steps g.O.Objects g.O.Reader.ObjectRead g.O.Writer.ObjectWrite c.args.self.now c.args.actor c.requires.actor c.args.label.now c.args.path.now c.args.worker c.make_writer.new.self made.block made.workers c.requires.some c.in_default.ensures (Ok c.in-Ok.field-0) (record { done = made.done; stopped = made.stopped; short = made.short; full = made.full }) made.counts made.counted made.hands made.same_hands
 
 pub returns-in-Err-clause-steps : goal.returns-in-Err-clause-steps
 returns-in-Err-clause-steps g c =
     let made = c.in-Err.ensures in
     subst (Steps g.D.Disk g.O.Objects g.O.Reader.ObjectRead g.O.Writer.ObjectWrite c.args.self.now c.make_writer.new.self c.args.actor (Event.Create c.args.label.now c.args.path.now WriteType.MustCache c.args.worker)) (sym c.fault_reply.ensures)
-    (create_steps g.O.Objects g.O.Reader.ObjectRead g.O.Writer.ObjectWrite c.args.self.now c.args.actor c.requires.actor c.args.label.now c.args.path.now c.args.worker c.make_writer.new.self made.block made.workers c.requires.some c.in_default.ensures (Err c.in-Err.fault) (record { done = made.done; stopped = made.stopped; short = made.short; full = made.full }) made.counts made.hands made.same_hands)
+    (create_steps g.O.Objects g.O.Reader.ObjectRead g.O.Writer.ObjectWrite c.args.self.now c.args.actor c.requires.actor c.args.label.now c.args.path.now c.args.worker c.make_writer.new.self made.block made.workers c.requires.some c.in_default.ensures (Err c.in-Err.fault) (record { done = made.done; stopped = made.stopped; short = made.short; full = made.full }) made.counts made.counted made.hands made.same_hands)
 
 pub returns-in-Some-clause-cause : goal.returns-in-Some-clause-cause
 returns-in-Some-clause-cause g c =

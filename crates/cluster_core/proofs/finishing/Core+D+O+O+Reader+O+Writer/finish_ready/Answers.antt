@@ -25,6 +25,7 @@ pub returns-in-Err-clause-steps : goal.returns-in-Err-clause-steps
 returns-in-Err-clause-steps g c = stops_steps g.O.Objects g.O.Reader.ObjectRead g.O.Writer.ObjectWrite c.args.self.now c.commit_block.new.self c.put_writer.new.self c.args.label c.args.actor c.requires.actor c.args.writer c.commit_block.new.writer (record c.commit_block.new.writer { broken = true }) c.enter_ready.new.master c.in-Ok.ensures.rest c.in-Ok.ensures.hands c.requires.passes
     c.in-Err.fault c.put_writer.result (c.put_writer.ensures.reply ∙ c.fault_reply.ensures) (λ e. c.in-Err.ensures.spared (ap Err e)) (λ e. subst (λ k. IsFullFor k c.commit_block.new.self.master) c.requires.entry (c.in-Err.ensures.full (ap Err e))) (λ e. subst (λ k. HasStopped g.D.Disk 4 (entered k (standing_of c.commit_block.new.self.master)) c.commit_block.new.self.master c.enter_ready.new.master) c.requires.entry (c.in-Err.ensures.stopped (ap Err e)))
     c.put_writer.ensures.rest.block c.put_writer.ensures.rest.master c.put_writer.ensures.rest.stores c.put_writer.ensures.workers c.put_writer.ensures.put (c.in-Ok.ensures.closed) refl
+    (subst (λ k. counts_in k (names_of c.commit_block.new.self.master) ≡ true) c.requires.entry (subst (λ k. counts_in c.args.entry.now (names_of k) ≡ true) (sym c.in-Ok.ensures.rest.master) c.requires.counts))
     c.in-Ok.ensures.done (λ none. (c.in-Ok.ensures.none none).1)
 
 pub returns-in-Err-clause-media : goal.returns-in-Err-clause-media

@@ -17,13 +17,13 @@ returns-in-Some-clause-steps g c = mkdir_refused g.O.Objects g.O.Reader.ObjectRe
 pub returns-in-Ok-clause-steps : goal.returns-in-Ok-clause-steps
 returns-in-Ok-clause-steps g c =
     let made = c.in-Ok.ensures in
-    mkdir_steps g.O.Objects g.O.Reader.ObjectRead g.O.Writer.ObjectWrite c.args.self.now c.args.actor c.args.path.now c.make_directory.new.self c.in_default.ensures made.block made.workers made.hands (Ok c.in-Ok.field-0) (record { done = made.done; stopped = made.stopped; short = made.short; full = made.full }) made.counts
+    mkdir_steps g.O.Objects g.O.Reader.ObjectRead g.O.Writer.ObjectWrite c.args.self.now c.args.actor c.args.path.now c.make_directory.new.self c.in_default.ensures made.block made.workers made.hands (Ok c.in-Ok.field-0) (record { done = made.done; stopped = made.stopped; short = made.short; full = made.full }) made.counts made.counted
 
 pub returns-in-Err-clause-steps : goal.returns-in-Err-clause-steps
 returns-in-Err-clause-steps g c =
     let made = c.in-Err.ensures in
     subst (Steps g.D.Disk g.O.Objects g.O.Reader.ObjectRead g.O.Writer.ObjectWrite c.args.self.now c.make_directory.new.self c.args.actor (Event.Mkdir c.args.path.now)) (sym c.fault_reply.ensures)
-    (mkdir_steps g.O.Objects g.O.Reader.ObjectRead g.O.Writer.ObjectWrite c.args.self.now c.args.actor c.args.path.now c.make_directory.new.self c.in_default.ensures made.block made.workers made.hands (Err c.in-Err.fault) (record { done = made.done; stopped = made.stopped; short = made.short; full = made.full }) made.counts)
+    (mkdir_steps g.O.Objects g.O.Reader.ObjectRead g.O.Writer.ObjectWrite c.args.self.now c.args.actor c.args.path.now c.make_directory.new.self c.in_default.ensures made.block made.workers made.hands (Err c.in-Err.fault) (record { done = made.done; stopped = made.stopped; short = made.short; full = made.full }) made.counts made.counted)
 
 pub returns-in-Err-clause-media : goal.returns-in-Err-clause-media
 returns-in-Err-clause-media g c =

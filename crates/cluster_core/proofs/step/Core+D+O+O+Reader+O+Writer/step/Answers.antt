@@ -86,3 +86,9 @@ returns-in-Mkdir-clause-steps g c = subst (λ e. Steps g.D.Disk g.O.Objects g.O.
 
 pub returns-in-Checkpoint-clause-steps : goal.returns-in-Checkpoint-clause-steps
 returns-in-Checkpoint-clause-steps g c = subst (λ e. Steps g.D.Disk g.O.Objects g.O.Reader.ObjectRead g.O.Writer.ObjectWrite c.args.self.now c.checkpoint.new.self c.args.actor e c.checkpoint.result) (sym c.in-Checkpoint.is) c.checkpoint.ensures.steps
+
+pub returns-in-Close-clause-steps : goal.returns-in-Close-clause-steps
+returns-in-Close-clause-steps g c = subst (λ e. Steps g.D.Disk g.O.Objects g.O.Reader.ObjectRead g.O.Writer.ObjectWrite c.args.self.now c.close_label.new.self c.args.actor e c.close_label.result) (sym c.in-Close.is) c.close_label.ensures.steps
+
+pub returns-in-Fuse-clause-steps : goal.returns-in-Fuse-clause-steps
+returns-in-Fuse-clause-steps g c = subst (λ e. Steps g.D.Disk g.O.Objects g.O.Reader.ObjectRead g.O.Writer.ObjectWrite c.args.self.now c.set_fuse.new.self c.args.actor e c.set_fuse.result) (sym c.in-Fuse.is) c.set_fuse.ensures.steps
