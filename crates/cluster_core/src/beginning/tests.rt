@@ -1,7 +1,5 @@
 //! What a core over tiers in memory answers, from its opening to its end.
 
-mod journaling;
-
 ghost use Rattle.std.specs.Prelude.{◌≡◌, ◌∷◌, [], true, IfOk, length};
 ghost use Rattle.fs_model.specs.Spelled.{is_actor, is_setup};
 ghost use Rattle.cluster_core.specs.Begun.{tier_counts};
@@ -14,7 +12,6 @@ use fs_model::numbers::{Actor, WorkerNo};
 use fs_model::path::Path;
 use fs_model::reply::{Refusal, Reply, Which};
 use fs_model::setup::Setup;
-use fs_model::stop::Stop;
 use outside::fused::Fused;
 use outside::media::Media;
 use outside_mem::{MemDisk, MemObjects, MemReader, MemWriter};
@@ -63,14 +60,13 @@ fn two(alloc: Global) -> Result<Vec<MemObjects>, AllocError>
     Ok(stores)
 }
 
-/// An area in memory that holds these bytes, with no fuse.
-fn area(alloc: Global, bytes: &[u8]) -> Result<Fused<MemDisk>, AllocError> {
-    let bytes = Vec::from_slice(alloc, bytes)?;
-    Ok(Fused::new(MemDisk::new(bytes)))
+/// An empty area in memory, with no fuse.
+fn area(alloc: Global) -> Fused<MemDisk> {
+    Fused::new(MemDisk::new(Vec::new(alloc)))
 }
 
-/// The media for that configuration, with empty stores and tiers; its areas hold these bytes.
-fn media(alloc: Global, first: &[u8], second: &[u8]) -> Result<MemMedia, AllocError>
+/// Empty media for that configuration.
+fn media(alloc: Global) -> Result<MemMedia, AllocError>
     ensures stores { IfOk result (λ media. length media.stores.items ≡ 1) }
     ensures tiers { IfOk result (λ media. tier_counts media.tiers.items ≡ 2 ∷ 1 ∷ []) }
 {
@@ -78,34 +74,20 @@ fn media(alloc: Global, first: &[u8], second: &[u8]) -> Result<MemMedia, AllocEr
     tiers.push(two(alloc)?)?;
     tiers.push(one(alloc)?)?;
     Ok(Media {
-        areas: (area(alloc, first)?, area(alloc, second)?),
+        areas: (area(alloc), area(alloc)),
         stores: one(alloc)?,
         tiers,
     })
 }
 
-/// What comes of an opening in that configuration, over areas with these bytes.
-fn opening(
-    alloc: Global,
-    first: &[u8],
-    second: &[u8],
-) -> Result<Result<MemCore, (Stop, MemMedia)>, AllocError> {
+/// A core in that configuration, over empty media.
+fn opened(alloc: Global) -> Result<MemCore, AllocError> {
     let setup = setup(alloc)?;
-    let media = media(alloc, first, second)?;
-    Ok(Core::open_cluster(alloc, &setup, media))
-}
-
-/// A core in that configuration, over areas with these bytes.
-fn opened_over(alloc: Global, first: &[u8], second: &[u8]) -> Result<MemCore, AllocError> {
-    match opening(alloc, first, second)? {
+    let media = media(alloc)?;
+    match Core::open_cluster(alloc, &setup, media) {
         Ok(core) => Ok(core),
         Err(_) => Err(AllocError),
     }
-}
-
-/// A core in that configuration, over empty areas.
-fn opened(alloc: Global) -> Result<MemCore, AllocError> {
-    opened_over(alloc, b"", b"")
 }
 
 /// A letter for a refusal.
@@ -120,9 +102,6 @@ fn refusal_letter(refusal: Refusal) -> u8 {
         Refusal::NoRoom(_) => b'f',
         Refusal::BadLabel => b'b',
         Refusal::Limit(Which::Labels) => b'x',
-        Refusal::Limit(Which::Area) => b'a',
-        Refusal::JournalFault => b'j',
-        Refusal::Stopped => b'!',
         Refusal::Memory => b'm',
         _ => b'?',
     }

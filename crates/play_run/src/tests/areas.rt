@@ -190,6 +190,59 @@ fn a_fuse_that_is_long_enough_stops_nothing(rt: HostRuntime) -> Result<(), Fail>
     fuses(&rt, alloc, lines, "1 ls / -> names a x\n")
 }
 
+#[test]
+fn a_fuse_stops_a_checkpoint(rt: HostRuntime) -> Result<(), Fail> {
+    let alloc = rt.alloc();
+    for calls in 0u32..6 {
+        let lines = format!(in alloc;
+            "1 fuse {calls} -> done
+1 checkpoint -> refused 25 JournalFault
+1 ls / -> refused 21 Stopped
+"
+        )?;
+        fuses(&rt, alloc, &lines, "1 ls / -> names a\n")?;
+    }
+    Ok(())
+}
+
+/// A checkpoint that takes all six calls that its fuse lets pass.
+const SIX: &str = "1 fuse 6 -> done
+1 checkpoint -> done
+1 checkpoint -> refused 25 JournalFault
+1 ls / -> refused 21 Stopped
+";
+
+#[test]
+fn a_checkpoint_takes_six_calls(rt: HostRuntime) -> Result<(), Fail> {
+    fuses(&rt, rt.alloc(), SIX, "1 ls / -> names a\n")
+}
+
+#[test]
+fn a_file_in_doubt_is_done_or_not(rt: HostRuntime) -> Result<(), Fail> {
+    let alloc = rt.alloc();
+    for (calls, shown) in [
+        (0u32, "1 0 INCOMPLETE"),
+        (2, "1 0 INCOMPLETE"),
+        (3, "1 4 LOST"),
+    ] {
+        let lines = format!(in alloc;
+            "1 create f /f MUST_CACHE 1 -> done
+1 room f -> done
+1 put f x:61626364 -> taken 4
+1 fuse {calls} -> done
+1 done f -> refused 25 JournalFault
+1 put f x:65 -> refused 19 BadLabel
+1 done f -> refused 19 BadLabel
+1 stat /f -> refused 21 Stopped
+1 close f -> done
+"
+        )?;
+        let later = format!(in alloc; "1 stat /f -> stat file {shown} -\n")?;
+        fuses(&rt, alloc, &lines, &later)?;
+    }
+    Ok(())
+}
+
 /// Checks that a play over these areas doesn't begin, for this reason, and leaves them with these bytes.
 fn stops(
     rt: &impl Abort,
